@@ -55,9 +55,7 @@ record Knows (conn : ℕ) (own : List Group) (made : List MadeLink) : Type 0 whe
 
 -- no group was added, and no link made
 knows-same : (conn : ℕ) (own : List Group) (made made' : List MadeLink) (ps : List Placed) → ps ≡ [] → made' ≡ made → Knows conn own made → Knows conn (own ++ map (λ p. p.group) ps) made'
-knows-same conn own made made' ps none same knows =
-    subst (λ l. Knows conn (own ++ map (λ (p : Placed). p.group) l) made') (sym none)
-    (subst (λ o. Knows conn o made') (sym (append-nil own)) (subst (Knows conn own) (sym same) knows))
+knows-same conn own made made' ps none same knows = rw (none, append-nil own, same) knows
 
 -- a device_abort leaves the links
 knows-aborted : (conn xid lid : ℕ) (own : List Group) (made : List MadeLink) (ps : List Placed) (calls : List Rang) (out : List ℕ) → IsAborted conn xid lid ps calls out → Knows conn own made
@@ -65,8 +63,7 @@ knows-aborted : (conn xid lid : ℕ) (own : List Group) (made : List MadeLink) (
 knows-aborted conn xid lid own made ps calls out is knows =
     let events = events-more own is.group.group ∙ ap (λ es. events_of own ++ es) is.events in
     let last = Abort conn lid is.error ∷ [] in
-    subst (λ l. Knows conn (own ++ map (λ (p : Placed). p.group) l) made) (sym is.groups)
-    (record {
+    rw is.groups (record {
       idle = ap (phase_by conn) events ∙ phase-append conn Absent (events_of own) last ∙ knows.idle;
       are = ap (numbers_by conn) events ∙ numbers-append conn Absent (Some []) (events_of own) last ∙ knows.are;
     })
@@ -91,15 +88,12 @@ module _ {B : Type 0} (g : Origin B) (called : CalledLinksLaw g) (read_made : Ma
   -- a message that was denied
   knows-denied : (m : Meaning) (item : Item) (own : List Group) (made made' : List MadeLink) → IsDenied made m item made' → Knows conn own made → Knows conn (own ++ map (λ p. p.group) item.placed) made'
   knows-denied (meant.Asks xid asked) item own made made' is knows = knows-same conn own made made' item.placed is.0 is.3 knows
-  knows-denied meant.Junk item own made made' is knows = absurd is
-  knows-denied (meant.Answered message) item own made made' is knows = absurd is
-  knows-denied (meant.Aborts xid lid) item own made made' is knows = absurd is
+  knows-denied _ item own made made' is knows = absurd is
 
   -- either
   knows-one : (m : Meaning) (denial : Option ℕ) (item : Item) (own : List Group) (made made' : List MadeLink) (seen seen' : List (Logged Group)) → IsGuarded g number conn made m denial item made'
       → Chain number seen item.placed seen' → Lawful MayAdd seen' → Knows conn own made → Knows conn (own ++ map (λ p. p.group) item.placed) made'
-  knows-one m None item own made made' seen seen' is chain lawful knows =
-      subst (Knows conn (own ++ map (λ p. p.group) item.placed)) (sym is.1) (knows-served m item own made seen seen' is.0 chain lawful knows)
+  knows-one m None item own made made' seen seen' is chain lawful knows = rw is.1 (knows-served m item own made seen seen' is.0 chain lawful knows)
   knows-one m (Some rule) item own made made' seen seen' is chain lawful knows = knows-denied m item own made made' is knows
 
   -- messages, one after the other

@@ -1,11 +1,7 @@
-mod Goings
 mod Knowing
 mod Known
-mod Asking
 mod Served
-mod Ended
 mod Ruling
-mod Rooms
 mod OnePeer
 mod Told
 mod Runs

@@ -1,7 +1,10 @@
--- One message of a guarded session: what the rules say of it, and what becomes of it.
-use Rattle.std.proofs.Common.{◌≡◌, ℕ, Bool, true, false, ◌||◌, List, Option, None, Some, refl, sym, ap, ◌∙◌, subst, arith, inl, inr}
+-- The messages of a guarded session, one after the other: what the rules say of each, and what becomes of it.
+use Rattle.std.proofs.Common.{◌≡◌, ◌≤◌, ◌||◌, ◌⊎◌, ℕ, Bool, true, false, List, [], ◌∷◌, Option, None, Some, refl, sym, ap, ◌∙◌, arith, inr}
 use Rattle.std.specs.Option.{is_none}
+use Rattle.std.specs.Io.KnownBytes.{Appends}
+use Rattle.std.proofs.KnownBytes.{Appends-nil, Appends-trans}
 use Rattle.std.proofs.lemmas.Option.{same_Some}
+use Rattle.vx_io_traits.specs.declared.dials.Rang.{Rang}
 use Rattle.vx_calls.specs.declared.calls.Role.TheVariants as role
 use Rattle.vx_calls.specs.Call.{Call}
 use Rattle.vx_bus_traits.specs.declared.bus.Bus.{Ghosts}
@@ -9,29 +12,27 @@ use Rattle.vx_core.specs.CoreState.{CoreState}
 use Rattle.vx_gate.specs.History.{made_by}
 use Rattle.vx_gate.specs.PassView.{PassView}
 use Rattle.vx_text.specs.Ends.{End}
+use Rattle.vx_text.specs.Writing.{StopsIn}
 use Rattle.vx_group.specs.Groups.{Group}
-use Rattle.vx_group.specs.Laws.{LinksLaw, FewLinksLaw}
-use Rattle.vx_record.specs.Fragments.{record_of}
-use Rattle.vx_exchange.specs.Meaning.{Meaning, Junk, Answered, Asks, Aborts, meaning}
-use Rattle.vx_session.specs.Origin.{Origin, origin}
-use Rattle.vx_session.specs.Progress.{ClockedAs, SessionState, ServesMeaning, IsSessionAnswered, MeaningDoes}
-use Rattle.vx_session.specs.LinkLaws.{CalledLinksLaw}
-use Rattle.vx_session.specs.Desks.{DeskAnswers, Attends}
+use Rattle.vx_exchange.specs.Meaning.{Meaning, Junk, Asks, meaning}
+use Rattle.vx_stream.specs.Answered.{Answered}
+use Rattle.vx_session.specs.Origin.{origin}
+use Rattle.vx_session.specs.Placing.{Placed, Makes}
+use Rattle.vx_session.specs.Progress.{Rings, Clocked, ClockedAs, SessionState, answered, placed, calls}
 use Rattle.vx_session.specs.OneBusDesk.{OneBusAsks}
-use Rattle.vx_session.specs.declared.desks.Desk.{Ghosts as OfDesk}
-use Rattle.vx_session.specs.declared.attending.Attending.{Attending}
-use Rattle.vx_session.proofs.Laws.{clockedas-none}
-use Rattle.vx_session.proofs.Laws.Recorded.{answered-does as served-so}
-use Rattle.vx_policy.specs.Laws.{MadeRead, DoneRead, NamedAlike}
-use Rattle.vx_policy.specs.Targets.{made_after}
-use Rattle.vx_guard.specs.Judged.{denial, learned}
+use Rattle.vx_session.proofs.Laws.{makes-none, makes-goes, clocked-goes}
+use Rattle.vx_session.proofs.Laws.Progressing.{rings-none, rings-goes}
+use Rattle.vx_policy.specs.Texts.{deny_line}
+use Rattle.vx_guard.specs.Judged.{Judged, IsGuarded, Guards, denial, note_of, notes, served}
 use Rattle.vx_guard.specs.Knowing.{KnowsOwn}
+use Rattle.vx_guard.specs.Laws.{GuardLaws}
 use Rattle.vx_guard.specs.Noting.{IsNoted}
-use Rattle.vx_guard.specs.Ruling.{RuledState, LearnsWithin, LearnsBy, PassesOn, IsStopped, DoesBy, RuledAsks}
-use Rattle.vx_guard.specs.Stages.{GuardState, GuardDoes, GuardHasReply, IsDenial}
+use Rattle.vx_guard.specs.Ruling.{RuledState, LearnsWithin, LearnsBy}
 use Rattle.vx_guard.proofs.Knowing.{learns, makes-own}
 
--- ---- what a message does
+-- what a guarded session has between two messages: what each session has, and what a ruled desk has besides
+abbrev pub GuardState : Type 0 → Type 0
+GuardState C = RuledState (SessionState C)
 
 or-true : (b : Bool) → (b || true) ≡ true
 or-true true = refl
@@ -41,169 +42,165 @@ or-false : (b : Bool) → (b || false) ≡ b
 or-false true = refl
 or-false false = refl
 
-module _ {B C : Type 0} (g : Origin B) (tells : C → ℕ → C → Type 0) (s : GuardState C) (message : List ℕ) where
-  junk-does : meaning message role.Core ≡ Junk → GuardDoes g tells s message None s
-  junk-does is = record {
-    role = refl;
-    conn = refl;
-    rules = refl;
-    peer = refl;
-    later = omega arith;
-    has = (record { pass = refl; clock = refl; dial = refl; made = refl }, inl (is, refl, refl));
-  }
+-- the note failed in the line of a denial
+pub record NoteFails {C : Type 0} (s : GuardState C) (m : Meaning) (s' : GuardState C) : Type 0 where
+  pub rule : ℕ
+  pub denied : denial s.rules s.peer s.made m ≡ Some rule
+  pub stops : StopsIn s.note s'.note (deny_line s.desk.conn rule)
+  pub desk : s'.desk ≡ s.desk
+  pub failed : s'.failed ≡ true
 
-  -- a message that is answered without the core
-  answered-does : (pass : PassView Group) (text out : List ℕ) → s.session.pass ≡ Some pass → meaning message role.Core ≡ Answered text → out ≡ record_of text → GuardDoes g tells s message (Some out) s
-  answered-does pass text out had is reply_is =
-      let clocked = ClockedAs s.session.role tells s.session.clock s.session.clock in
-      let serves : ServesMeaning g clocked s.session.told pass s.session.conn (meaning message role.Core) s.session.dial out pass s.session.dial =
-      subst (λ m. ServesMeaning g clocked s.session.told pass s.session.conn m s.session.dial out pass s.session.dial) (sym is)
-      (served-so g s.session.told pass s.session.conn s.session.dial clocked (clockedas-none tells s.session.role s.session.clock s.session.clock refl) text out reply_is) in
+module _ {B C : Type 0} (bus : Ghosts B) (tells : C → ℕ → C → Type 0) (core : CoreState B) where
+  -- A message of this meaning was answered, in a session whose pass was this one. The pass's own groups are those of its number, and the
+  -- links that the session knows are among those of its connection.
+  pub record Step (s : GuardState C) (pass : PassView Group) (m : Meaning) (one : Answered) (s' : GuardState C) : Type 0 where
+    pub groups : List Placed
+    pub rung : List Rang
+    pub denied : Option ℕ
+    pub pass' : PassView Group
+    pub has : s'.desk.pass ≡ Some pass'
+    pub makes : Makes s'.desk.told pass groups pass'
+    pub by_rules : denied ≡ denial s.rules s.peer s.made m
+    pub guarded : IsGuarded (origin bus core) pass.number s.desk.conn s.made m denied (record { answered = one; placed = groups; calls = rung }) s'.made
+    pub asks : Clocked tells s.desk.clock s'.desk.clock groups
+    pub rings : Rings s.desk.dial groups rung s'.desk.dial
+    pub noted : Appends s.note.bytes s'.note.bytes (note_of s.desk.conn denied)
+    pub counted : s.note.faults ≤ s'.note.faults
+    pub still : (s'.desk.conn ≡ s.desk.conn) × (s'.rules ≡ s.rules) × (s'.peer ≡ s.peer) × (s'.failed ≡ s.failed)
+    pub later : s.desk.told ≤ s'.desk.told
+    pub own : made_by pass'.number pass'.seen ≡ pass'.own
+    pub knows : KnowsOwn pass' s'.desk.conn s'.made
+
+  -- what a message of this meaning does: it is answered; or has no reply, as it is junk, or as the note failed
+  abbrev pub Does : GuardState C → PassView Group → Meaning → (message : List ℕ) → Option (List ℕ) → GuardState C → Type 0
+  Does s pass m message (Some reply) s' = Step s pass m (record { message = message; reply = reply }) s'
+  Does s pass m message None s' = ((m ≡ Junk) × (s' ≡ s)) ⊎ NoteFails s m s'
+
+  module _ (s : GuardState C) (pass : PassView Group) (had : s.desk.pass ≡ Some pass) (own : made_by pass.number pass.seen ≡ pass.own) (knows : KnowsOwn pass s.desk.conn s.made) where
+    -- it was answered by no turn of the pass
+    pub step-still : (m : Meaning) (one : Answered) (denied : Option ℕ) (note : End) → denied ≡ denial s.rules s.peer s.made m
+        → IsGuarded (origin bus core) pass.number s.desk.conn s.made m denied (record { answered = one; placed = []; calls = [] }) s.made
+        → Appends s.note.bytes note.bytes (note_of s.desk.conn denied) → s.note.faults ≤ note.faults → Step s pass m one (record s { note = note })
+    step-still m one denied note by_rules guarded noted counted = record {
+      groups = [];
+      rung = [];
+      denied = denied;
+      pass' = pass;
+      has = had;
+      makes = makes-none s.desk.told pass;
+      by_rules = by_rules;
+      guarded = guarded;
+      asks = refl;
+      rings = rings-none s.desk.dial;
+      noted = noted;
+      counted = counted;
+      still = (refl, refl, refl, refl);
+      later = omega arith;
+      own = own;
+      knows = knows;
+    }
+
+    -- it is a call that a rule denies
+    pub step-denied : (xid : ℕ) (call : Call) (rule : ℕ) (message : List ℕ) (reply : Option (List ℕ)) (s' : GuardState C) → denial s.rules s.peer s.made (Asks xid call) ≡ Some rule
+        → IsNoted s.desk.conn rule xid call s.note reply s'.note → s' ≡ record s { note = s'.note; failed = s.failed || is_none reply } → Does s pass (Asks xid call) message reply s'
+    step-denied xid call rule message None s' denied noted same =
+        inr (record { rule = rule; denied = denied; stops = noted; desk = ap (λ (x : GuardState C). x.desk) same; failed = ap (λ (x : GuardState C). x.failed) same ∙ or-true s.failed })
+    step-denied xid call rule message (Some reply) s' denied noted same =
+        rw (same ∙ ap (λ (b : Bool). record s { note = s'.note; failed = b }) (or-false s.failed))
+        (step-still (Asks xid call) (record { message = message; reply = reply }) (Some rule) s'.note (sym denied) (refl, refl, noted.0, refl) noted.1 noted.2)
+
+    -- or one that none denies, which the core answered
+    pub step-allowed : GuardLaws bus → (xid : ℕ) (call : Call) (message : List ℕ) (reply : Option (List ℕ)) (s' : GuardState C) → denial s.rules s.peer s.made (Asks xid call) ≡ None
+        → OneBusAsks (origin bus core) tells s.desk xid call reply s'.desk → LearnsBy s.made call reply s'.made → s' ≡ record s { desk = s'.desk; made = s'.made } → s.desk.role ≡ role.Core
+        → Does s pass (Asks xid call) message reply s'
+    step-allowed laws xid call message reply s' allowed asked learned same of_core =
+        let did = asked.does in
+        let serves = did.has.serves in
+        let is : pass ≡ did.has.pass = same_Some pass did.has.pass (sym had ∙ did.has.had) in
+        let owns = makes-own s'.desk.told did.has.pass did.has.pass' serves.placed serves.makes (rw is at own) in
+        let learnt : LearnsWithin s.made call asked.out s'.made = rw asked.reply_is at learned in
+        let learning = learns (origin bus core) laws.links laws.few (laws.called core) laws.read_made laws.read_done laws.alike (ClockedAs s.desk.role tells s.desk.clock s'.desk.clock) s'.desk.told
+        did.has.pass did.has.pass' s.desk.conn xid call s.desk.dial s'.desk.dial asked.out s.made s'.made serves asked.history owns asked.idle (rw is at knows) learnt.few in
+        let note_is : s'.note ≡ s.note = ap (λ (x : GuardState C). x.note) same in
+        let step : Step s did.has.pass (Asks xid call) (record { message = message; reply = asked.out }) s' = record {
+          groups = serves.placed;
+          rung = serves.rung;
+          denied = None;
+          pass' = did.has.pass';
+          has = did.has.has;
+          makes = serves.makes;
+          by_rules = sym allowed;
+          guarded = (serves.holding, learning.is);
+          asks = rw of_core at serves.asks;
+          rings = serves.rings;
+          noted = rw note_is (Appends-nil s.note.bytes);
+          counted = rw note_is (omega arith);
+          still = (did.conn, ap (λ (x : GuardState C). x.rules) same, ap (λ (x : GuardState C). x.peer) same, ap (λ (x : GuardState C). x.failed) same);
+          later = did.later;
+          own = owns;
+          knows = rw did.conn learning.knows;
+        } in
+        rw (asked.reply_is, is) step
+
+  -- ---- messages
+
+  -- These messages of a session, whose pass was this one, were answered, one after the other.
+  pub record GuardsAll (s : GuardState C) (pass : PassView Group) (list : List Answered) (s' : GuardState C) : Type 0 where
+    pub items : List Judged
+    pub pass' : PassView Group
+    pub are : answered (served items) ≡ list
+    pub has : s'.desk.pass ≡ Some pass'
+    pub makes : Makes s'.desk.told pass (placed (served items)) pass'
+    pub each : Guards (origin bus core) pass.number s.desk.conn s.rules s.peer s.made items s'.made
+    pub asks : Clocked tells s.desk.clock s'.desk.clock (placed (served items))
+    pub rings : Rings s.desk.dial (placed (served items)) (calls (served items)) s'.desk.dial
+    pub noted : Appends s.note.bytes s'.note.bytes (notes s.desk.conn items)
+    pub counted : s.note.faults ≤ s'.note.faults
+    pub still : (s'.desk.conn ≡ s.desk.conn) × (s'.rules ≡ s.rules) × (s'.peer ≡ s.peer) × (s'.failed ≡ s.failed)
+    pub later : s.desk.told ≤ s'.desk.told
+    pub own : made_by pass'.number pass'.seen ≡ pass'.own
+    pub knows : KnowsOwn pass' s'.desk.conn s'.made
+
+  -- no message was answered
+  pub guards-none : (s s' : GuardState C) (pass : PassView Group) → s.desk.pass ≡ Some pass → made_by pass.number pass.seen ≡ pass.own → KnowsOwn pass s.desk.conn s.made → s' ≡ s → GuardsAll s pass [] s'
+  guards-none s s' pass had own knows same = rw same (record {
+    items = [];
+    pass' = pass;
+    are = refl;
+    has = had;
+    makes = makes-none s.desk.told pass;
+    each = refl;
+    asks = refl;
+    rings = rings-none s.desk.dial;
+    noted = Appends-nil s.note.bytes;
+    counted = omega arith;
+    still = (refl, refl, refl, refl);
+    later = omega arith;
+    own = own;
+    knows = knows;
+  })
+
+  -- one was answered, and then more of them
+  pub guards-more : (s mid s' : GuardState C) (pass : PassView Group) (one : Answered) (more : List Answered) (first : Step s pass (meaning one.message role.Core) one mid) → GuardsAll mid first.pass' more s'
+      → GuardsAll s pass (one ∷ more) s'
+  guards-more s mid s' pass one more first rest =
+      let earlier = first.later in
+      let later = rest.later in
+      let before = first.counted in
+      let after = rest.counted in
       record {
-        role = refl;
-        conn = refl;
-        rules = refl;
-        peer = refl;
+        items = record { served = record { answered = one; placed = first.groups; calls = first.rung }; denial = first.denied } ∷ rest.items;
+        pass' = rest.pass';
+        are = ap (λ (list : List Answered). one ∷ list) rest.are;
+        has = rest.has;
+        makes = makes-goes mid.desk.told s'.desk.told pass first.pass' rest.pass' first.groups (placed (served rest.items)) later first.makes rest.makes;
+        each = (first.by_rules, mid.made, first.guarded, rw (first.makes.number, first.still.0, first.still.1, first.still.2) at rest.each);
+        asks = clocked-goes tells s.desk.clock mid.desk.clock s'.desk.clock first.groups (placed (served rest.items)) first.asks rest.asks;
+        rings = rings-goes s.desk.dial mid.desk.dial s'.desk.dial first.groups (placed (served rest.items)) first.rung (calls (served rest.items)) first.rings rest.rings;
+        noted = Appends-trans s.note.bytes mid.note.bytes s'.note.bytes (note_of s.desk.conn first.denied) (notes s.desk.conn rest.items) first.noted (rw first.still.0 at rest.noted);
+        counted = omega arith;
+        still = (rest.still.0 ∙ first.still.0, rest.still.1 ∙ first.still.1, rest.still.2 ∙ first.still.2, rest.still.3 ∙ first.still.3);
         later = omega arith;
-        has = (
-          subst (GuardHasReply g tells s message out s) (sym (ap (denial s.rules s.peer s.made) is))
-              (record { pass = pass; pass' = pass; had = had; has = had; serves = serves }, sym (ap (λ (m : Meaning). learned s.made m out) is), refl),
-          refl,
-        );
+        own = rest.own;
+        knows = rest.knows;
       }
-
-  -- a call that the rules allow
-  allowed-does : (s' : GuardState C) (xid : ℕ) (call : Call) (out : List ℕ) → meaning message role.Core ≡ Asks xid call → denial s.rules s.peer s.made (Asks xid call) ≡ None
-      → MeaningDoes g tells s.session (Asks xid call) (Some out) s'.session → s'.rules ≡ s.rules → s'.peer ≡ s.peer → s'.made ≡ made_after s.made call out → s'.note ≡ s.note → s'.failed ≡ s.failed
-      → GuardDoes g tells s message (Some out) s'
-  allowed-does s' xid call out is allowed does rules peer made note failed = record {
-    role = does.role;
-    conn = does.conn;
-    rules = rules;
-    peer = peer;
-    later = does.later;
-    has = (
-      subst (GuardHasReply g tells s message out s') (sym (ap (denial s.rules s.peer s.made) is ∙ allowed)) (
-        subst (λ m. IsSessionAnswered g tells s.session m out s'.session) (sym is) does.has,
-        made ∙ sym (ap (λ (m : Meaning). learned s.made m out) is),
-        note,
-      ),
-      failed,
-    );
-  }
-
-  -- a call that they deny
-  denied-does : (xid : ℕ) (call : Call) (rule : ℕ) (reply : Option (List ℕ)) (note : End) → meaning message role.Core ≡ Asks xid call → denial s.rules s.peer s.made (Asks xid call) ≡ Some rule
-      → IsNoted s.session.conn rule xid call s.note reply note → GuardDoes g tells s message reply (record s { note = note; failed = s.failed || is_none reply })
-  denied-does xid call rule None note is denied noted = record {
-    role = refl;
-    conn = refl;
-    rules = refl;
-    peer = refl;
-    later = omega arith;
-    has = (
-      record { pass = refl; clock = refl; dial = refl; made = refl },
-      inr (record { rule = rule; denied = ap (denial s.rules s.peer s.made) is ∙ denied; stops = noted }, or-true s.failed),
-    );
-  }
-  denied-does xid call rule (Some out) note is denied noted = record {
-    role = refl;
-    conn = refl;
-    rules = refl;
-    peer = refl;
-    later = omega arith;
-    has = (
-      subst (GuardHasReply g tells s message out (record s { note = note; failed = s.failed || false })) (sym (ap (denial s.rules s.peer s.made) is ∙ denied))
-          (record { pass = refl; clock = refl; dial = refl; made = refl }, subst (λ (m : Meaning). IsDenial m out) (sym is) noted.0, noted.1, noted.2),
-      or-false s.failed,
-    );
-  }
-
--- ---- at a ruled desk of one bus
-
--- the pass of a session is in its place and its own groups are those of its number, and the links that the session knows are among those
--- of its connection
-pub record HoldsOwn {C : Type 0} (s : GuardState C) : Type 0 where
-  pub pass : PassView Group
-  pub has : s.session.pass ≡ Some pass
-  pub own : made_by pass.number pass.seen ≡ pass.own
-  pub knows : KnowsOwn pass s.session.conn s.made
-
--- a message did what it does on a guarded connection, and left that so
-pub record GuardsMessage {B C : Type 0} (g : Origin B) (tells : C → ℕ → C → Type 0) (s : GuardState C) (message : List ℕ) (reply : Option (List ℕ)) (s' : GuardState C) : Type 0 where
-  pub does : GuardDoes g tells s message reply s'
-  pub holds : HoldsOwn s'
-
--- the state of a session at a ruled desk, by that of a session at the desk below
-abbrev pub guard_state : {C D : Type 0} → (D → SessionState C) → RuledState D → GuardState C
-guard_state seat s = record { session = seat s.desk; rules = s.rules; peer = s.peer; made = s.made; note = s.note; failed = s.failed }
-
-module _ {B C D : Type 0} (bus : Ghosts B) (tells : C → ℕ → C → Type 0) (links : LinksLaw) (few : FewLinksLaw) (called : (core : CoreState B) → CalledLinksLaw (origin bus core)) (read_made : MadeRead) (read_done : DoneRead)
-    (alike : NamedAlike) (below : OfDesk D) (first : D → CoreState B) (seat : D → SessionState C) (number : (d : D) → below.number d ≡ (seat d).conn)
-    (asks : (d d' : D) (xid : ℕ) (call : Call) (reply : Option (List ℕ)) → below.asks d xid call reply d' → OneBusAsks (origin bus (first d)) tells (seat d) xid call reply (seat d')) where
-  -- a call that the rules allow
-  passed-on : (s s' : RuledState D) (message : List ℕ) (xid : ℕ) (call : Call) (reply : Option (List ℕ)) → meaning message role.Core ≡ Asks xid call
-      → denial s.rules s.peer s.made (Asks xid call) ≡ None → HoldsOwn (guard_state seat s) → PassesOn below s xid call reply s'
-      → GuardsMessage (origin bus (first s.desk)) tells (guard_state seat s) message reply (guard_state seat s')
-  passed-on s s' message xid call reply is allowed holds did =
-      let g = origin bus (first s.desk) in
-      let a = seat s.desk in
-      let b = seat s'.desk in
-      let asked = asks s.desk s'.desk xid call reply did.asks in
-      let answered = asked.does.has in
-      let serves = answered.serves in
-      let same : holds.pass ≡ answered.pass = same_Some holds.pass answered.pass (sym holds.has ∙ answered.had) in
-      let own = makes-own b.told answered.pass answered.pass' serves.placed serves.makes (subst (λ (p : PassView Group). made_by p.number p.seen ≡ p.own) same holds.own) in
-      let learnt : LearnsWithin s.made call asked.out s'.made = subst (λ o. LearnsBy s.made call o s'.made) asked.reply_is did.learns in
-      let learning = learns g links few (called (first s.desk)) read_made read_done alike (ClockedAs a.role tells a.clock b.clock) b.told answered.pass answered.pass' a.conn xid call a.dial b.dial asked.out s.made s'.made
-      serves asked.history own asked.idle (subst (λ p. KnowsOwn p a.conn s.made) same holds.knows) learnt.few in
-      let does = allowed-does g tells (guard_state seat s) message (guard_state seat s') xid call asked.out is allowed asked.does
-      (ap (λ (x : RuledState D). x.rules) did.same) (ap (λ (x : RuledState D). x.peer) did.same) learning.is (ap (λ (x : RuledState D). x.note) did.same) (ap (λ (x : RuledState D). x.failed) did.same) in
-      record {
-        does = subst (λ o. GuardDoes g tells (guard_state seat s) message o (guard_state seat s')) (sym asked.reply_is) does;
-        holds = record { pass = answered.pass'; has = answered.has; own = own; knows = subst (λ n. KnowsOwn answered.pass' n s'.made) (sym asked.does.conn) learning.knows };
-      }
-
-  -- a call that this rule denies
-  stopped : (s s' : RuledState D) (message : List ℕ) (rule xid : ℕ) (call : Call) (reply : Option (List ℕ)) → meaning message role.Core ≡ Asks xid call
-      → denial s.rules s.peer s.made (Asks xid call) ≡ Some rule → HoldsOwn (guard_state seat s) → IsStopped below rule s xid call reply s'
-      → GuardsMessage (origin bus (first s.desk)) tells (guard_state seat s) message reply (guard_state seat s')
-  stopped s s' message rule xid call reply is denied holds did =
-      subst (λ x. GuardsMessage (origin bus (first s.desk)) tells (guard_state seat s) message reply (guard_state seat x)) (sym did.same)
-      (record {
-        does = denied-does (origin bus (first s.desk)) tells (guard_state seat s) message xid call rule reply s'.note is denied
-            (subst (λ n. IsNoted n rule xid call s.note reply s'.note) (number s.desk) did.noted);
-        holds = record { pass = holds.pass; has = holds.has; own = holds.own; knows = holds.knows };
-      })
-
-  -- a call
-  asked-so : (s s' : RuledState D) (message : List ℕ) (xid : ℕ) (call : Call) (reply : Option (List ℕ)) → meaning message role.Core ≡ Asks xid call → HoldsOwn (guard_state seat s)
-      → (denied : Option ℕ) → denied ≡ denial s.rules s.peer s.made (Asks xid call) → DoesBy below denied s xid call reply s'
-      → GuardsMessage (origin bus (first s.desk)) tells (guard_state seat s) message reply (guard_state seat s')
-  asked-so s s' message xid call reply is holds None by_rules did = passed-on s s' message xid call reply is (sym by_rules) holds did
-  asked-so s s' message xid call reply is holds (Some rule) by_rules did = stopped s s' message rule xid call reply is (sym by_rules) holds did
-
-  module _ {S : Type 0} (ways : OfDesk S) (of : S → RuledState D)
-      (ruled_asks : (s s' : S) (xid : ℕ) (call : Call) (reply : Option (List ℕ)) → ways.asks s xid call reply s' → RuledAsks below (of s) xid call reply (of s')) where
-    -- a message of this meaning
-    answers-so : (m : Meaning) (s s' : S) (message : List ℕ) (reply : Option (List ℕ)) → meaning message role.Core ≡ m → HoldsOwn (guard_state seat (of s)) → DeskAnswers ways role.Core s m reply s'
-        → GuardsMessage (origin bus (first (of s).desk)) tells (guard_state seat (of s)) message reply (guard_state seat (of s'))
-    answers-so Junk s s' message None is holds did =
-        subst (λ x. GuardsMessage (origin bus (first (of s).desk)) tells (guard_state seat (of s)) message None (guard_state seat (of x))) (sym did)
-        (record { does = junk-does (origin bus (first (of s).desk)) tells (guard_state seat (of s)) message is; holds = holds })
-    answers-so Junk s s' message (Some out) is holds did = absurd did
-    answers-so (Answered text) s s' message None is holds did = absurd did
-    answers-so (Answered text) s s' message (Some out) is holds did =
-        subst (λ x. GuardsMessage (origin bus (first (of s).desk)) tells (guard_state seat (of s)) message (Some out) (guard_state seat (of x))) (sym did.1)
-        (record { does = answered-does (origin bus (first (of s).desk)) tells (guard_state seat (of s)) message holds.pass text out holds.has is did.0; holds = holds })
-    answers-so (Asks xid call) s s' message reply is holds did =
-        let asked = ruled_asks s s' xid call reply did.1 in
-        asked-so (of s) (of s') message xid call reply is holds asked.denied asked.by_rules asked.does
-    answers-so (Aborts xid lid) s s' message None is holds did = absurd did
-    answers-so (Aborts xid lid) s s' message (Some out) is holds did = let core = did.0 in absurd (cc)
-
-    -- a message at it does what it does on a guarded connection
-    pub attends-so : (s s' : Attending S) (message : List ℕ) (reply : Option (List ℕ)) → s.role ≡ role.Core → HoldsOwn (guard_state seat (of s.desk)) → Attends ways s message reply s'
-        → GuardsMessage (origin bus (first (of s.desk).desk)) tells (guard_state seat (of s.desk)) message reply (guard_state seat (of s'.desk))
-    attends-so s s' message reply core holds did =
-        answers-so (meaning message role.Core) s.desk s'.desk message reply refl holds (subst (λ r. DeskAnswers ways r s.desk (meaning message r) reply s'.desk) core did.answers)

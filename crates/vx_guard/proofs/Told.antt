@@ -1,5 +1,5 @@
 -- How a run ends that has no rules.
-use Rattle.std.proofs.Common.{◌+◌, inl, inr, ℕ, List, Err, refl, sym, subst, arith}
+use Rattle.std.proofs.Common.{◌+◌, inl, inr, ℕ, List, Err, refl, arith}
 use Rattle.vx_text.specs.Ends.{End}
 use Rattle.vx_text.specs.Reading.{GivesAll, GivesTooMuch, GivesUpTo}
 use Rattle.vx_policy.specs.declared.policy.TheConstants.{TEXT_MAX}
@@ -13,8 +13,8 @@ use Rattle.vx_guard.specs.Outcome.{GuardEnds, IsGuardRefused, IsGuardTold, IsUnr
 
 -- a line that tells why was written, or the sink failed in it
 pub line-told : (ends : GuardEnds) (line : List ℕ) (how : GuardStatus) → IsGuardRefused ends.source ends.source_after line → GuardPutsLine status.PolicyFault line ends.sink ends.sink_after how → IsUnruled ends how
-line-told ends line how refused (inl told) = subst (λ h. IsUnruled ends h) (sym told.0) (line, refused, told.1)
-line-told ends line how refused (inr told) = subst (λ h. IsUnruled ends h) (sym told.0) (line, refused, told.1)
+line-told ends line how refused (inl told) = rw told.0 (line, refused, told.1)
+line-told ends line how refused (inr told) = rw told.0 (line, refused, told.1)
 
 -- the source gave more than a policy may have
 pub long_told : (ends : GuardEnds) (text : List ℕ) (how : GuardStatus) → GivesTooMuch TEXT_MAX ends.source ends.source_after text → GuardPutsLine status.PolicyFault policy_long_line ends.sink ends.sink_after how → IsUnruled ends how
@@ -30,4 +30,4 @@ pub text_told : (ends : GuardEnds) (text : List ℕ) (why : PolicyErr) (how : Gu
 text_told ends text (err.Form line) how gives read told = line-told ends (form_line line) how (inr (text, gives, inl (line, refl, read))) told
 text_told ends text err.TooMany how gives read told = line-told ends many_line how (inr (text, gives, inr (refl, read))) told
 text_told ends text err.NoMemory how gives read told =
-    subst (λ h. IsUnruled ends h) (sym told.0) (gave-up-to ends.source ends.source_after text gives, told.1)
+    rw told.0 (gave-up-to ends.source ends.source_after text gives, told.1)

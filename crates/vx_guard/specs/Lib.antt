@@ -3,7 +3,7 @@ pub mod Noting
 pub mod Ruling
 pub mod Known
 pub mod Knowing
-pub mod Stages
+pub mod Laws
 pub mod Wholes
 pub mod Linking
 pub mod Peers

@@ -11,6 +11,7 @@ mod serving;
 mod sessions;
 mod starting;
 mod status;
+mod theorems;
 
 pub use links::{Gateway, Guarded, Kit, guarded_link};
 pub use ruled::Ruled;

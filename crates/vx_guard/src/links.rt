@@ -9,6 +9,7 @@ ghost use Rattle.vx_guard.specs.Linking.{GuardLinkDid, guarded_as};
 
 use crate::ruled::Ruled;
 use crate::sessions::{GuardEnd, GuardRoom, guard_end};
+use crate::theorems::guard_laws;
 use std::alloc::Global;
 use std::sync::Wait;
 use vx_bus_traits::Bus;
@@ -16,10 +17,9 @@ use vx_calls::Role;
 use vx_core::Core;
 use vx_door::Peered;
 use vx_gate::{Pass, Turns};
-use vx_group::{claims_law, links_law, owned_law};
 use vx_io_traits::{Clock, Dial, Pause, Sink};
-use vx_policy::{Policy, replies_read, texts_name};
-use vx_session::{Linked, OneBus, Worker, called_law, serve_link};
+use vx_policy::Policy;
+use vx_session::{Linked, OneBus, Worker, serve_link};
 
 /// What a gateway's links are served by: the runtime, the memory, and the turns at its gate.
 #[derive(Drop)]
@@ -86,12 +86,7 @@ pub fn guarded_link<
     ensures told { C.told kit.old.clock ≤ C.told kit.new.clock }
     ensures went { Went L.receives L.sends link.old link.new }
 {
-    claims_law();
-    owned_law();
-    links_law();
-    called_law::<B>();
-    replies_read();
-    texts_name();
+    guard_laws::<B>();
     pass.order();
     let Kit {
         clock,

@@ -12,6 +12,7 @@ ghost use Rattle.vx_session.specs.Progress.{Clocked};
 ghost use Rattle.vx_guard.specs.Wholes.{GuardDid, guard_end};
 
 use crate::ruled::Ruled;
+use crate::theorems::guard_laws;
 use std::alloc::Global;
 use std::marker::Model;
 use std::sync::Wait;
@@ -20,10 +21,9 @@ use vx_calls::Role;
 use vx_core::Core;
 use vx_door::Peered;
 use vx_gate::{Pass, Turns};
-use vx_group::{claims_law, links_law, owned_law};
 use vx_io_traits::{Clock, Dial, Pause, Sink};
-use vx_policy::{KnownLinks, Policy, replies_read, texts_name};
-use vx_session::{OneBus, Room, Worker, called_law, serve_session};
+use vx_policy::{KnownLinks, Policy};
+use vx_session::{OneBus, Room, Worker, serve_session};
 use vx_stream::End;
 
 /// There was no memory for the room.
@@ -115,12 +115,7 @@ pub fn guarded_session<
     ensures told { C.told clock.old ≤ C.told clock.new }
     ensures went { Went L.receives L.sends link.old link.new }
 {
-    claims_law();
-    owned_law();
-    links_law();
-    called_law::<B>();
-    replies_read();
-    texts_name();
+    guard_laws::<B>();
     pass.order();
     let GuardRoom { room, made } = room;
     made.clear();

@@ -9,7 +9,7 @@ use Rattle.vx_session.specs.Origin.{origin}
 use Rattle.vx_peers.proofs.Laws.{port_keeps, told_port}
 use Rattle.vx_guard.specs.Peers.{GuardHas, GuardShows, GuardsPeer, guard_has, guard_shown, pass_in}
 use Rattle.vx_guard.specs.declared.serving.Guard.{Guard}
-use Rattle.vx_guard.proofs.OnePeer.{ready-first, by-rules}
+use Rattle.vx_guard.proofs.OnePeer.{ready-first}
 use Rattle.vx_guard.proofs.Runs.{port-run}
 use Rattle.vx_guard.proofs.run.serve_ask.Given as given
 use Rattle.vx_guard.proofs.run.serve_ask.Goals as goal
@@ -46,7 +46,7 @@ returns g c =
     served.result.1
     (told_port _ (view g) (GuardsPeer (shows g first) c.args.policy.now) (λ s. s.failed) (λ s. (g.T.Turns.first s.gateway.turns.now ≡ first) × (s.policy.now ≡ c.args.policy.now))
     (λ s s' d d' how holds did. (
-      by-rules (shows g) (g.T.Turns.first s.gateway.turns.now) first s.policy.now c.args.policy.now (view g s) d how (view g s') d' holds.0 holds.1 did.0,
+      rw (holds.0, holds.1) at did.0,
       (did.1 ∙ holds.0, did.2 ∙ holds.1),
     ))
     (λ s t d e how did. own-kept g d e did.0.went) (λ s. refl) _ c.args.ask.now _ c.args.net.now served.result.1 served.result.0 served.new.net (refl, refl) served.ensures)

@@ -22,60 +22,38 @@ pub guarded_link-pass-requires : goal.guarded_link-pass-requires
 guarded_link-pass-requires g c =
     let ready = c.requires.can in
     let taken : c.args.self.held.now ≡ Some c.in-Some.pass = search rules in
-    let same = same_Some ready.pass c.in-Some.pass (sym ready.has ∙ taken) in
-    record { gate = subst (λ (p : PassView Group). p.gate ≡ g.T.Turns.gate c.args.self.gateway.turns.now) same ready.can.gate_is }
+    record { gate = rw (same_Some ready.pass c.in-Some.pass (sym ready.has ∙ taken)) at ready.can.gate_is }
 
-pub returns-clause-can : goal.returns-clause-can
-returns-clause-can g c =
+pub returns : goal.returns
+returns g c =
     let served = c.guarded_link-pass in
-    let s = c.args.self in
-    let ready = c.requires.can in
-    let taken : c.args.self.held.now ≡ Some c.in-Some.pass = search rules in
-    let same = same_Some ready.pass c.in-Some.pass (sym ready.has ∙ taken) in
-    link-ready (origin g.B.Bus (g.T.Turns.first s.gateway.turns.now)) g.N.Link _ _ _ (g.T.Turns.gate s.gateway.turns.now) c.args._behind
-    (has g c.in-Some.pass c.args.door.now s.kit.now.dial s.note.now) served.result.1 (has g served.result.0 served.new.link served.new.kit.dial served.new.note)
-    (subst (CanServe (g.T.Turns.gate s.gateway.turns.now)) same ready.can) (subst (IsSessionClear c.args._behind) same ready.clear) served.ensures.did
-
-pub returns-clause-did : goal.returns-clause-did
-returns-clause-did g c =
-    let served = c.guarded_link-pass in
+    let did = served.ensures.did in
     let s = c.args.self in
     let ready = c.requires.can in
     let taken : c.args.self.held.now ≡ Some c.in-Some.pass = search rules in
     let same = same_Some ready.pass c.in-Some.pass (sym ready.has ∙ taken) in
     let bus = origin g.B.Bus (g.T.Turns.first s.gateway.turns.now) in
-    let after = has g served.result.0 served.new.link served.new.kit.dial served.new.note in (
-      record {
-        did = subst (λ (p : PassView Group). GuardLinkDid bus g.N.Link (Clocked g.C.Clock.tells s.kit.now.clock served.new.kit.clock) (g.C.Clock.told served.new.kit.clock) s.policy.now
-            (has g p c.args.door.now s.kit.now.dial s.note.now) served.result.1 after) (sym (ap pass_in taken)) served.ensures.did;
-        later = served.ensures.told;
-        went = served.ensures.went;
-        failed = c.fails-failed.ensures;
-        room = link-room bus g.N.Link _ _ _ c.args._behind (has g c.in-Some.pass c.args.door.now s.kit.now.dial s.note.now) served.result.1 after
-            (subst (IsSessionClear c.args._behind) same ready.clear) (omega (arith, c.requires.few)) served.ensures.did;
-      },
-      refl,
-      refl,
-      refl,
-    )
-
-pub returns-clause-receives : goal.returns-clause-receives
-returns-clause-receives g c =
-    let served = c.guarded_link-pass in
-    let s = c.args.self in
-    (link-counts (origin g.B.Bus (g.T.Turns.first s.gateway.turns.now)) g.N.Link _ _ _ (has g c.in-Some.pass c.args.door.now s.kit.now.dial s.note.now) served.result.1
-    (has g served.result.0 served.new.link served.new.kit.dial served.new.note) served.ensures.did).0
-
-pub returns-clause-sends : goal.returns-clause-sends
-returns-clause-sends g c =
-    let served = c.guarded_link-pass in
-    let s = c.args.self in
-    (link-counts (origin g.B.Bus (g.T.Turns.first s.gateway.turns.now)) g.N.Link _ _ _ (has g c.in-Some.pass c.args.door.now s.kit.now.dial s.note.now) served.result.1
-    (has g served.result.0 served.new.link served.new.kit.dial served.new.note) served.ensures.did).1
-
-pub returns-clause-cut : goal.returns-clause-cut
-returns-clause-cut g c =
-    let served = c.guarded_link-pass in
-    let s = c.args.self in
-    link-cut (origin g.B.Bus (g.T.Turns.first s.gateway.turns.now)) g.N.Link _ _ _ (has g c.in-Some.pass c.args.door.now s.kit.now.dial s.note.now) served.result.1
-    (has g served.result.0 served.new.link served.new.kit.dial served.new.note) served.ensures.did
+    let gate = g.T.Turns.gate s.gateway.turns.now in
+    let clear = subst (IsSessionClear c.args._behind) same ready.clear in
+    let before = has g c.in-Some.pass c.args.door.now s.kit.now.dial s.note.now in
+    let after = has g served.result.0 served.new.link served.new.kit.dial served.new.note in
+    let counts = link-counts bus g.N.Link _ _ _ before served.result.1 after did in
+    record {
+      can = link-ready bus g.N.Link _ _ _ gate c.args._behind before served.result.1 after (subst (CanServe gate) same ready.can) clear did;
+      did = (
+        record {
+          did = subst (λ (p : PassView Group). GuardLinkDid bus g.N.Link (Clocked g.C.Clock.tells s.kit.now.clock served.new.kit.clock) (g.C.Clock.told served.new.kit.clock) s.policy.now
+              (has g p c.args.door.now s.kit.now.dial s.note.now) served.result.1 after) (sym (ap pass_in taken)) did;
+          later = served.ensures.told;
+          went = served.ensures.went;
+          failed = c.fails-failed.ensures;
+          room = link-room bus g.N.Link _ _ _ c.args._behind before served.result.1 after clear (omega (arith, c.requires.few)) did;
+        },
+        refl,
+        refl,
+        refl,
+      );
+      receives = counts.0;
+      sends = counts.1;
+      cut = link-cut bus g.N.Link _ _ _ before served.result.1 after did;
+    }
