@@ -18,29 +18,13 @@ use Rattle.vx_session.specs.declared.links.Linked.TheVariants as linked
 use Rattle.vx_session.specs.Desks.{DeskAnswers, Attends}
 use Rattle.vx_session.proofs.Laws.Progressing.{ends-as}
 use Rattle.vx_names.specs.declared.named.Named.{Named}
-use Rattle.vx_names.specs.Names.{named}
 use Rattle.vx_names.specs.Naming.{NamedAsks, named_ways}
 use Rattle.vx_names.specs.NameLaws.{NoNamesLaw, NoNamesSessionLaw, NoNamesLinkLaw}
 
 -- each call is what it is
 pub no_names-same : NoNamesLaw
-no_names-same call.Null = refl
 no_names-same (call.CreateLink client lock lock_timeout device) = refl
-no_names-same (call.Write lid io_timeout lock_timeout flags bytes) = refl
-no_names-same (call.Read lid request io_timeout lock_timeout flags term) = refl
-no_names-same (call.ReadStb generic) = refl
-no_names-same (call.Trigger generic) = refl
-no_names-same (call.Clear generic) = refl
-no_names-same (call.Remote generic) = refl
-no_names-same (call.Local generic) = refl
-no_names-same (call.Lock lid flags lock_timeout) = refl
-no_names-same (call.Unlock lid) = refl
-no_names-same (call.EnableSrq lid enable handle) = refl
-no_names-same (call.Docmd lid flags io_timeout lock_timeout cmd big size bytes) = refl
-no_names-same (call.DestroyLink lid) = refl
-no_names-same (call.CreateIntr host port prog vers family) = refl
-no_names-same call.DestroyIntr = refl
-no_names-same (call.DeviceAbort lid) = refl
+no_names-same _ = refl
 
 -- the desk below, as it attends the connection
 abbrev below : {D : Type 0} → Attending (Named D) → Attending D
@@ -49,20 +33,16 @@ below s = record { desk = s.desk.desk; role = s.role }
 module _ {D : Type 0} (ways : Ghosts D) where
   -- a call does what it does at the desk below
   asks-below : (s s' : Named D) (xid : ℕ) (asked : Call) (reply : Option (List ℕ)) → s.names.now ≡ [] → NamedAsks ways s xid asked reply s' → ways.asks s.desk xid asked reply s'.desk
-  asks-below s s' xid asked reply none did =
-      subst (λ c. ways.asks s.desk xid c reply s'.desk) (no_names-same asked)
-      (subst (λ names. ways.asks s.desk xid (named names asked) reply s'.desk) none did.below)
+  asks-below s s' xid asked reply none did = subst (λ c. ways.asks s.desk xid c reply s'.desk) (no_names-same asked) (rw none at did.below)
 
   -- so does what a message means
   answers-below : (m : Meaning) (r : Role) (s s' : Named D) (reply : Option (List ℕ)) → s.names.now ≡ [] → DeskAnswers (named_ways ways) r s m reply s'
       → DeskAnswers ways r s.desk m reply s'.desk × (s'.names.now ≡ [])
   answers-below Junk r s s' None none did = (ap (λ (x : Named D). x.desk) did, ap (λ (x : Named D). x.names.now) did ∙ none)
-  answers-below Junk r s s' (Some out) none did = absurd did
-  answers-below (meant.Answered message) r s s' None none did = absurd did
   answers-below (meant.Answered message) r s s' (Some out) none did = ((did.0, ap (λ (x : Named D). x.desk) did.1), ap (λ (x : Named D). x.names.now) did.1 ∙ none)
   answers-below (Asks xid asked) r s s' reply none did = ((did.0, asks-below s s' xid asked reply none did.1), did.1.names ∙ none)
-  answers-below (Aborts xid lid) r s s' None none did = absurd did
   answers-below (Aborts xid lid) r s s' (Some out) none did = ((did.0, did.1.below), did.1.names ∙ none)
+  answers-below _ r s s' _ none did = absurd did
 
   -- and a message
   attends-below : (s s' : Attending (Named D)) (message : List ℕ) (reply : Option (List ℕ)) → s.desk.names.now ≡ [] → Attends (named_ways ways) s message reply s'
@@ -82,12 +62,8 @@ module _ {D : Type 0} (ways : Ghosts D) where
 
   -- how the desk is left
   left-below : (how : End) (last s' : Attending (Named D)) → IsLeft (Some how) last s' → IsLeft (Some how) (below last) (below s')
-  left-below end.Closed last s' left = ap (λ (x : Attending (Named D)). below x) left
-  left-below (end.CutShort bytes) last s' left = ap (λ (x : Attending (Named D)). below x) left
   left-below (end.Junk count) last s' left = tt
-  left-below end.TooLong last s' left = ap (λ (x : Attending (Named D)). below x) left
-  left-below end.ReadFault last s' left = ap (λ (x : Attending (Named D)). below x) left
-  left-below end.WriteFault last s' left = ap (λ (x : Attending (Named D)). below x) left
+  left-below how last s' left = ap (λ (x : Attending (Named D)). below x) left
 
   -- a stream
   stream-below : {L : Type 0} (of_link : OfLink L) (s s' : Attending (Named D)) (link link' : L) (limit room : ℕ) (how : End) → s.desk.names.now ≡ []
