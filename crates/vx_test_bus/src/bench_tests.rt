@@ -3,8 +3,6 @@
 use crate::row_tools::compare;
 use arrayvec::ArrayString;
 use std::alloc::Global;
-use std::fmt::Write;
-use std::test::Fail;
 use vx_488::Addr;
 use vx_rack::{Echo, Spare};
 use vx_script::Cause;
@@ -29,38 +27,38 @@ fn push_echoes(alloc: Global, rack: &mut Vec<Spare<Echo>>) -> Option<()> {
 /// How a bench ends, how many spares are left, and whether instruments stand at 5, at 6 and at 7,8 then.
 type Ended = (Option<BenchStop>, usize, [bool; 3]);
 
-/// Sets a bench up on a bus, where there is memory for the spares.
-fn set_on(alloc: Global, text: &[u8], bus: &mut SimBus<Echo>) -> Option<Ended> {
-    let mut rack = Vec::new(alloc);
-    push_echoes(alloc, &mut rack)?;
-    let stop = set_up(alloc, text, bus, &mut rack).err();
-    Some((stop, rack.len(), standing(bus)))
-}
-
-/// Sets a bench up on a bus with nothing on it.
-fn end_of(alloc: Global, text: &[u8]) -> Option<Ended> {
-    let mut bus = SimBus::new(alloc).ok()?;
-    set_on(alloc, text, &mut bus)
-}
-
-/// How such a bench ends.
-fn stop_in(alloc: Global, text: &[u8]) -> Option<Option<BenchStop>> {
-    let (stop, _, _) = end_of(alloc, text)?;
-    Some(stop)
-}
-
-/// Whether instruments stand at 5, at 6 and at 7,8.
-fn standing(bus: &mut SimBus<Echo>) -> [bool; 3] {
-    [
-        stands(bus, 5, None),
-        stands(bus, 6, None),
-        stands(bus, 7, Some(8)),
-    ]
-}
-
 /// Whether an instrument stands at an address.
 fn stands(bus: &mut SimBus<Echo>, p: u8, s: Option<u8>) -> bool {
     bus.set_status(Addr { p, s }, 0).is_ok()
+}
+
+/// Sets a bench up on a bus.
+fn set_on(
+    alloc: Global,
+    text: &[u8],
+    bus: &mut SimBus<Echo>,
+    rack: &mut Vec<Spare<Echo>>,
+) -> Ended {
+    let stop = set_up(alloc, text, bus, rack).err();
+    let stand = [
+        stands(bus, 5, None),
+        stands(bus, 6, None),
+        stands(bus, 7, Some(8)),
+    ];
+    (stop, rack.len(), stand)
+}
+
+/// Sets one up with two spares, where there is memory for them.
+fn end_on(alloc: Global, text: &[u8], bus: &mut SimBus<Echo>) -> Option<Ended> {
+    let mut rack = Vec::new(alloc);
+    push_echoes(alloc, &mut rack)?;
+    Some(set_on(alloc, text, bus, &mut rack))
+}
+
+/// Sets one up on a bus with nothing on it.
+fn end_of(alloc: Global, text: &[u8]) -> Option<Ended> {
+    let mut bus = SimBus::new(alloc).ok()?;
+    end_on(alloc, text, &mut bus)
 }
 
 const NONE: [bool; 3] = [false; 3];
@@ -142,39 +140,4 @@ fn benches(rt: HostRuntime) {
         let ended = Some((stop_of(*refused), *left, *stand));
         compare(&rt, row, &end_of(rt.alloc(), text), &ended);
     }
-}
-
-/// A bench of 31 tables, and then one more instrument.
-fn full_text(alloc: Global) -> Result<String, Fail> {
-    let mut text = String::new(alloc);
-    for secondary in 0..=30u8 {
-        writeln!(text, "inst 5,{secondary} {{\"rules\":[]}}")?;
-    }
-    text.push_str("plug 6 echo\n")?;
-    Ok(text)
-}
-
-// The 32nd instrument.
-#[test]
-fn full_bench(rt: HostRuntime) -> Result<(), Fail> {
-    let text = full_text(rt.alloc())?;
-    let stop = stop_of(Some((32, Cause::Bench)));
-    compare(&rt, 0, &stop_in(rt.alloc(), text.as_bytes()), &Some(stop));
-    Ok(())
-}
-
-// A line as long as may be, and one byte longer.
-static LENGTHS: [(usize, Option<(u64, Cause)>); 2] = [
-    (1_048_576, None),
-    (1_048_577, Some((1, Cause::Form))),
-];
-
-#[test]
-fn long_lines(rt: HostRuntime) -> Result<(), Fail> {
-    for (row, (len, refused)) in LENGTHS.iter().enumerate() {
-        let text = vec![in rt.alloc(); b'#'; *len]?;
-        let stop = stop_of(*refused);
-        compare(&rt, row, &stop_in(rt.alloc(), &text), &Some(stop));
-    }
-    Ok(())
 }

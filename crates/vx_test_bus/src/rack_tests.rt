@@ -1,17 +1,12 @@
 //! Tables of what is done with the instruments of a rack.
 
 use crate::step_tools::{Step, take_steps};
-use arrayvec::ArrayString;
-use std::process::Abort;
 use std::test::Fail;
-use vx_inst::{INST_MAX, Instrument};
+use vx_inst::INST_MAX;
 use vx_rack::*;
 
-/// An instrument as a program keeps it, which may cross threads.
-type Boxed = Box<dyn Instrument + Send>;
-
 // A message comes back with END on its last byte.
-static ECHO: [Step; 34] = [
+const ECHO_STEPS: &[Step] = &[
     Step::Mute,
     Step::Takes(b'A', false),
     Step::Mute,
@@ -50,7 +45,7 @@ static ECHO: [Step; 34] = [
 ];
 
 // Readings are numbered from 1, by message and by trigger.
-static METER: [Step; 20] = [
+const METER_STEPS: &[Step] = &[
     Step::Sent(b"READ?"),
     Step::Replies(b"1\n"),
     Step::Triggered,
@@ -74,7 +69,7 @@ static METER: [Step; 20] = [
 ];
 
 // After each byte a slow instrument waits for a later moment; a poll and a clear leave that as it is.
-static SLOW: [Step; 29] = [
+const SLOW_STEPS: &[Step] = &[
     Step::Told(0),
     Step::Takes(b'A', false),
     Step::Hears(false),
@@ -107,7 +102,7 @@ static SLOW: [Step; 29] = [
 ];
 
 // The end of a message and a trigger ask for service, and a poll ends the asking.
-static ASKER: [Step; 19] = [
+const ASKER_STEPS: &[Step] = &[
     Step::Asks(false),
     Step::Polled(0),
     Step::Takes(b'A', false),
@@ -130,7 +125,7 @@ static ASKER: [Step; 19] = [
 ];
 
 // Readings 1 to 45541 leave room for 4 bytes: the next reading is dropped, and its number isn't given again.
-static FULL_METER: [Step; 4] = [
+const FULL_METER_STEPS: &[Step] = &[
     Step::TriggeredOften(45542),
     Step::Replies(b"1\n"),
     Step::Triggered,
@@ -146,58 +141,37 @@ const FULL_METER_ENDS: &[(u8, bool)] = &[
     (b'\n', true),
 ];
 
-/// Does steps with an instrument.
-fn play(rt: &impl Abort, name: &str, mut inst: Boxed, steps: &[Step]) {
-    take_steps(rt, name, &mut inst, steps);
-}
-
 #[test]
 fn echo(rt: HostRuntime) -> Result<(), Fail> {
-    let inst = Box::new(rt.alloc(), Echo::new(rt.alloc())?)?;
-    play(&rt, "echo", inst, &ECHO);
+    let mut inst = Echo::new(rt.alloc())?;
+    take_steps(&rt, "echo", &mut inst, ECHO_STEPS);
     Ok(())
 }
 
 #[test]
 fn meter(rt: HostRuntime) -> Result<(), Fail> {
-    let inst = Box::new(rt.alloc(), Meter::new(rt.alloc())?)?;
-    play(&rt, "meter", inst, &METER);
+    let mut inst = Meter::new(rt.alloc())?;
+    take_steps(&rt, "meter", &mut inst, METER_STEPS);
     Ok(())
 }
 
 #[test]
 fn slow(rt: HostRuntime) -> Result<(), Fail> {
-    let inst = Box::new(rt.alloc(), Slow::new(rt.alloc())?)?;
-    play(&rt, "slow", inst, &SLOW);
+    let mut inst = Slow::new(rt.alloc())?;
+    take_steps(&rt, "slow", &mut inst, SLOW_STEPS);
     Ok(())
 }
 
 #[test]
 fn asker(rt: HostRuntime) -> Result<(), Fail> {
-    let inst = Box::new(rt.alloc(), Asker::new(rt.alloc())?)?;
-    play(&rt, "asker", inst, &ASKER);
+    let mut inst = Asker::new(rt.alloc())?;
+    take_steps(&rt, "asker", &mut inst, ASKER_STEPS);
     Ok(())
 }
 
 #[test]
 fn full_meter(rt: HostRuntime) -> Result<(), Fail> {
-    let inst = Box::new(rt.alloc(), Meter::new(rt.alloc())?)?;
-    play(&rt, "full meter", inst, &FULL_METER);
-    Ok(())
-}
-
-// A spare has the name that it is plugged in by.
-fn play_spare(rt: &impl Abort, spare: &mut Spare<Boxed>) {
-    let steps = [Step::Sent(b"A"), Step::Replies(b"A")];
-    take_steps(rt, "spare", &mut spare.inst, &steps);
-    assert!(rt; spare.name.as_str() == "echo");
-}
-
-#[test]
-fn spare(rt: HostRuntime) -> Result<(), Fail> {
-    let name = ArrayString::from("echo").map_err(|_| "too long")?;
-    let echo = Echo::new(rt.alloc())?;
-    let inst: Boxed = Box::new(rt.alloc(), echo)?;
-    play_spare(&rt, &mut Spare { name, inst });
+    let mut inst = Meter::new(rt.alloc())?;
+    take_steps(&rt, "full meter", &mut inst, FULL_METER_STEPS);
     Ok(())
 }

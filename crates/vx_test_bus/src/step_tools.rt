@@ -1,10 +1,5 @@
 //! What a bus asks of an instrument, as data, with the answers that are due.
 
-ghost use Rattle.std.specs.Prelude.{◌≡◌, true, []};
-ghost use Rattle.vx_inst.specs.declared.done.Done.TheVariants.{Took};
-ghost use Rattle.vx_inst.specs.Behavior.{after};
-ghost use Rattle.vx_inst.specs.Laws.{takes_byte, InstTakes};
-
 use std::process::Abort;
 use vx_inst::Instrument;
 
@@ -43,11 +38,7 @@ pub enum Step {
 }
 
 /// Hands a byte to an instrument of any kind, where it can take one.
-pub fn hand<I: Instrument>(inst: &mut I, b: u8, end: bool) -> bool
-    ensures can { result ≡ takes_byte (I.behaves inst.old []) }
-    ensures takes { result ≡ true → InstTakes (I.behaves inst.old []) b end (I.behaves inst.new []) }
-    ensures does { result ≡ true → I.behaves inst.new ≡ after (Took b end) (I.behaves inst.old) }
-{
+fn hand<I: Instrument>(inst: &mut I, b: u8, end: bool) -> bool {
     let can = inst.can_take();
     if can {
         inst.take(b, end);
@@ -56,7 +47,7 @@ pub fn hand<I: Instrument>(inst: &mut I, b: u8, end: bool) -> bool
 }
 
 /// Gets a byte of one, where it has one.
-pub fn get<I: Instrument>(inst: &mut I) -> Option<(u8, bool)> {
+fn get<I: Instrument>(inst: &mut I) -> Option<(u8, bool)> {
     if inst.can_give() {
         Some(inst.give())
     } else {
@@ -66,28 +57,26 @@ pub fn get<I: Instrument>(inst: &mut I) -> Option<(u8, bool)> {
 
 /// Hands it a message. Answers whether it takes each byte.
 fn send<I: Instrument>(inst: &mut I, message: &[u8]) -> bool {
-    let Some((last, front)) = message.split_last() else {
-        return true;
-    };
-    for b in front {
-        if !hand(inst, *b, false) {
+    let mut left = message.len();
+    for b in message {
+        left = left.saturating_sub(1);
+        if !hand(inst, *b, left == 0) {
             return false;
         }
     }
-    hand(inst, *last, true)
+    true
 }
 
 /// Gets a reply. Answers whether it is this one, END on its last byte.
 fn receive<I: Instrument>(inst: &mut I, reply: &[u8]) -> bool {
-    let Some((last, front)) = reply.split_last() else {
-        return true;
-    };
-    for b in front {
-        if get(inst) != Some((*b, false)) {
+    let mut left = reply.len();
+    for b in reply {
+        left = left.saturating_sub(1);
+        if get(inst) != Some((*b, left == 0)) {
             return false;
         }
     }
-    get(inst) == Some((*last, true))
+    true
 }
 
 /// Hands it a byte so often. Answers whether it takes each.

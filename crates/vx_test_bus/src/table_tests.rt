@@ -4,185 +4,76 @@ use crate::row_tools::compare;
 use crate::step_tools::{Step, take_steps};
 use serde_json::Value;
 use std::alloc::Global;
-use std::process::Abort;
 use std::test::Fail;
 use vx_inst::INST_MAX;
 use vx_table::*;
 
-/// The instrument that a text describes.
-fn made(alloc: Global, text: &str) -> Result<TableInst, Fail> {
-    let value = Value::from_str(alloc, text)?;
-    Ok(TableInst::from_json(alloc, &value)?)
-}
+/// A text of pieces: a front, a piece that stands there so often, and the rest.
+type Text = (&'static str, &'static str, usize, &'static str);
 
-/// Why a text describes no instrument.
-fn refusal(alloc: Global, text: &str) -> Result<Option<TableErr>, Fail> {
-    let value = Value::from_str(alloc, text)?;
-    Ok(TableInst::from_json(alloc, &value).err())
-}
-
-/// A text of pieces, one of them repeated.
-fn repeated(
-    alloc: Global,
-    before: &str,
-    piece: &str,
-    count: usize,
-    behind: &str,
-) -> Result<String, Fail> {
-    let mut text = String::from_str(alloc, before)?;
+fn spelled(alloc: Global, text: &Text) -> Result<String, Fail> {
+    let (front, piece, count, rest) = *text;
+    let mut spelled = String::from_str(alloc, front)?;
     for _ in 0..count {
-        text.push_str(piece)?;
+        spelled.push_str(piece)?;
     }
-    text.push_str(behind)?;
-    Ok(text)
+    spelled.push_str(rest)?;
+    Ok(spelled)
 }
 
-/// Why such a text describes no instrument.
-fn refusal_of(
-    alloc: Global,
-    before: &str,
-    piece: &str,
-    count: usize,
-    behind: &str,
-) -> Result<Option<TableErr>, Fail> {
-    let text = repeated(alloc, before, piece, count, behind)?;
-    refusal(alloc, text.as_str())
-}
-
-// Texts of JSON, and why each describes no instrument.
-static TEXTS: [(&str, Option<TableErr>); 27] = [
-    // Each value that isn't a table, or has a bad rule behind good ones.
-    (r#"[]"#, Some(TableErr::NotObject)),
-    (r#"null"#, Some(TableErr::NotObject)),
-    (r#"{}"#, Some(TableErr::NotObject)),
-    (r#"{"rules":{}}"#, Some(TableErr::NotObject)),
-    (r#"{"rules":[{"out":"x"}]}"#, Some(TableErr::BadRule(1))),
-    (r#"{"rules":[{"in":"a"},7]}"#, Some(TableErr::BadRule(2))),
-    (
-        r#"{"rules":[{"in":"a"},[],{}]}"#,
-        Some(TableErr::BadRule(2)),
-    ),
-    // Each table with one rule that isn't of a rule's form. Of equal keys the last counts.
-    (r#"{"rules":[null]}"#, Some(TableErr::BadRule(1))),
-    (r#"{"rules":[{"in":1}]}"#, Some(TableErr::BadRule(1))),
-    (
-        r#"{"rules":[{"in":"a","in":1}]}"#,
-        Some(TableErr::BadRule(1)),
-    ),
-    (
-        r#"{"rules":[{"in":"a","out":null}]}"#,
-        Some(TableErr::BadRule(1)),
-    ),
-    (
-        r#"{"rules":[{"in":"a","stb":256}]}"#,
-        Some(TableErr::BadRule(1)),
-    ),
-    (
-        r#"{"rules":[{"in":"a","stb":-1}]}"#,
-        Some(TableErr::BadRule(1)),
-    ),
-    (
-        r#"{"rules":[{"in":"a","stb":-0}]}"#,
-        Some(TableErr::BadRule(1)),
-    ),
-    (
-        r#"{"rules":[{"in":"a","stb":80.0}]}"#,
-        Some(TableErr::BadRule(1)),
-    ),
-    (
-        r#"{"rules":[{"in":"a","stb":8e1}]}"#,
-        Some(TableErr::BadRule(1)),
-    ),
-    (
-        r#"{"rules":[{"in":"a","stb":null}]}"#,
-        Some(TableErr::BadRule(1)),
-    ),
-    (
-        r#"{"rules":[{"in":"a","stb":"8"}]}"#,
-        Some(TableErr::BadRule(1)),
-    ),
-    (
-        r#"{"rules":[{"in":"a","delay":4294967296}]}"#,
-        Some(TableErr::BadRule(1)),
-    ),
-    (
-        r#"{"rules":[{"in":"a","delay":1.5}]}"#,
-        Some(TableErr::BadRule(1)),
-    ),
-    (
-        r#"{"rules":[{"in":"a","delay":true}]}"#,
-        Some(TableErr::BadRule(1)),
-    ),
-    // Each value that makes an instrument. Of equal keys the last counts, and other keys don't.
-    (r#"{"rules":[]}"#, None),
-    (r#"{"rules":[{"in":"*IDN?","out":"ACME,1\n"}]}"#, None),
-    (
-        r#"{"rules":[{"in":"","stb":0,"delay":0}],"name":null}"#,
-        None,
-    ),
-    (
-        r#"{"rules":[{"in":"a","stb":255,"delay":4294967295,"x":[]}]}"#,
-        None,
-    ),
-    (r#"{"rules":[{"in":1,"in":"a","stb":256,"stb":1}]}"#, None),
-    (r#"{"rules":7,"rules":[]}"#, None),
-];
-
-#[test]
-fn texts(rt: HostRuntime) -> Result<(), Fail> {
-    for (row, (text, why)) in TEXTS.iter().enumerate() {
-        compare(&rt, row, &refusal(rt.alloc(), text)?, why);
-    }
-    Ok(())
+/// The instrument that a text of JSON describes, or why it describes none.
+fn made(alloc: Global, text: &Text) -> Result<Result<TableInst, TableErr>, Fail> {
+    let text = spelled(alloc, text)?;
+    let value = Value::from_str(alloc, &text)?;
+    Ok(TableInst::from_json(alloc, &value))
 }
 
 const FIRST: &str = r#"{"rules":[{"in":"a"}"#;
 
 const NEXT: &str = r#",{"in":"a"}"#;
 
-const ASKED: &str = r#"{"rules":[{"in":""#;
-
 const REPLY: &str = r#"{"rules":[{"in":"a","out":""#;
 
 const END: &str = r#""}]}"#;
 
-// A table has at most 256 rules, a message at most 4,096 bytes and a reply at most 65,536.
-static LIMITS: [(&str, &str, usize, &str, Option<TableErr>); 9] = [
-    (FIRST, NEXT, 255, "]}", None),
-    (FIRST, NEXT, 256, "]}", Some(TableErr::TooMany)),
-    (r#"{"rules":[{}"#, NEXT, 256, "]}", Some(TableErr::TooMany)),
-    (FIRST, NEXT, 254, ",{}]}", Some(TableErr::BadRule(256))),
-    (ASKED, "a", 4096, END, None),
-    (ASKED, "a", 4097, END, Some(TableErr::BadRule(1))),
-    (ASKED, "é", 2049, END, Some(TableErr::BadRule(1))),
-    (REPLY, "a", 65536, END, None),
-    (REPLY, "a", 65537, END, Some(TableErr::BadRule(1))),
+// Texts, and why each describes no instrument. Others are rows of the program `vx_rows`.
+static TEXTS: [(Text, Option<TableErr>); 12] = [
+    // Each value that isn't a table, or has a bad rule behind good ones; and one that makes an instrument.
+    (("[]", "", 0, ""), Some(TableErr::NotObject)),
+    (("{}", "", 0, ""), Some(TableErr::NotObject)),
+    ((r#"{"rules":{}}"#, "", 0, ""), Some(TableErr::NotObject)),
+    (
+        (r#"{"rules":[{"out":"x"}]}"#, "", 0, ""),
+        Some(TableErr::BadRule(1)),
+    ),
+    ((FIRST, ",7]}", 1, ""), Some(TableErr::BadRule(2))),
+    ((FIRST, ",[],{}]}", 1, ""), Some(TableErr::BadRule(2))),
+    (
+        (r#"{"rules":[{"in":"*IDN?","out":"ACME,1\n"}]}"#, "", 0, ""),
+        None,
+    ),
+    // A table has at most 256 rules, and a reply at most 65,536 bytes.
+    ((FIRST, NEXT, 255, "]}"), None),
+    ((FIRST, NEXT, 256, "]}"), Some(TableErr::TooMany)),
+    ((FIRST, NEXT, 254, ",{}]}"), Some(TableErr::BadRule(256))),
+    ((REPLY, "a", 65536, END), None),
+    ((REPLY, "a", 65537, END), Some(TableErr::BadRule(1))),
 ];
 
 #[test]
-fn limits(rt: HostRuntime) -> Result<(), Fail> {
-    for (row, (before, piece, count, behind, why)) in LIMITS.iter().enumerate() {
-        let found = refusal_of(rt.alloc(), before, piece, *count, behind)?;
-        compare(&rt, row, &found, why);
+fn texts(rt: HostRuntime) -> Result<(), Fail> {
+    for (row, (text, why)) in TEXTS.iter().enumerate() {
+        compare(&rt, row, &made(rt.alloc(), text)?.err(), why);
     }
     Ok(())
 }
 
-/// Makes an instrument that a text describes, and does these steps with it.
-fn play(
-    rt: &impl Abort,
-    alloc: Global,
-    name: &str,
-    text: &str,
-    steps: &[Step],
-) -> Result<(), Fail> {
-    let mut inst = made(alloc, text)?;
-    take_steps(rt, name, &mut inst, steps);
-    Ok(())
-}
-
-const REPLIES_TEXT: &str =
-    r#"{"rules":[{"in":"*IDN?","out":"ACME,1\n"},{"in":"*IDN?","out":"no"},{"in":"A\n","out":"B"},{"in":"","out":"C"},{"in":"N"}]}"#;
+const REPLIES_TEXT: Text = (
+    r#"{"rules":[{"in":"*IDN?","out":"ACME,1\n"},{"in":"*IDN?","out":"no"},{"in":"A\n","out":"B"},{"in":"","out":"C"},{"in":"N"}]}"#,
+    "",
+    0,
+    "",
+);
 
 // The first rule for a message acts. One line feed at the end of a message doesn't count.
 const REPLIES: &[Step] = &[
@@ -222,7 +113,7 @@ const REPLIES: &[Step] = &[
     Step::Polled(0),
 ];
 
-const STATUS_TEXT: &str = r#"{"rules":[{"in":"A","stb":80},{"in":"B"}]}"#;
+const STATUS_TEXT: Text = (r#"{"rules":[{"in":"A","stb":80},{"in":"B"}]}"#, "", 0, "");
 
 // A rule sets the status byte; bit 6 asks for service.
 const STATUS: &[Step] = &[
@@ -239,8 +130,12 @@ const STATUS: &[Step] = &[
     Step::Polled(0xBF),
 ];
 
-const DELAY_TEXT: &str =
-    r#"{"rules":[{"in":"A","out":"BC","stb":65,"delay":100},{"in":"D","out":"E"}]}"#;
+const DELAY_TEXT: Text = (
+    r#"{"rules":[{"in":"A","out":"BC","stb":65,"delay":100},{"in":"D","out":"E"}]}"#,
+    "",
+    0,
+    "",
+);
 
 // A rule with a delay acts when that has passed since the last moment told, and not before.
 const DELAY: &[Step] = &[
@@ -281,8 +176,12 @@ const DELAY: &[Step] = &[
     Step::Mute,
 ];
 
-const CLEAR_TEXT: &str =
-    r#"{"rules":[{"in":"A","out":"B","stb":1,"delay":100},{"in":"C","out":"D"}]}"#;
+const CLEAR_TEXT: Text = (
+    r#"{"rules":[{"in":"A","out":"B","stb":1,"delay":100},{"in":"C","out":"D"}]}"#,
+    "",
+    0,
+    "",
+);
 
 // A clear drops what was taken, what there is to give and the rule that waits.
 const CLEAR: &[Step] = &[
@@ -302,24 +201,8 @@ const CLEAR: &[Step] = &[
     Step::Replies(b"D"),
 ];
 
-// Names, texts, and steps with the instruments that they describe.
-static PLAYS: [(&str, &str, &[Step]); 4] = [
-    ("replies", REPLIES_TEXT, REPLIES),
-    ("status", STATUS_TEXT, STATUS),
-    ("delay", DELAY_TEXT, DELAY),
-    ("clear", CLEAR_TEXT, CLEAR),
-];
-
-#[test]
-fn plays(rt: HostRuntime) -> Result<(), Fail> {
-    for (name, text, steps) in &PLAYS {
-        play(&rt, rt.alloc(), name, text, steps)?;
-    }
-    Ok(())
-}
-
 // A reply that has no room is dropped whole, and one that just fits isn't; the status byte is set all the same.
-static ROOM: [Step; 10] = [
+const ROOM: &[Step] = &[
     Step::Sent(b"D"),
     Step::Sent(b"D"),
     Step::Sent(b"D"),
@@ -332,10 +215,27 @@ static ROOM: [Step; 10] = [
     Step::Drained(INST_MAX, &[(b'x', true), (b'B', false), (b'C', true)]),
 ];
 
-const BEFORE_LONG: &str = r#"{"rules":[{"in":"A","out":"BC","stb":65},{"in":"D","out":""#;
+const ROOM_TEXT: Text = (
+    r#"{"rules":[{"in":"A","out":"BC","stb":65},{"in":"D","out":""#,
+    "x",
+    65536,
+    END,
+);
+
+// Names, texts, and steps with the instruments that they describe.
+static PLAYS: [(&str, Text, &[Step]); 5] = [
+    ("replies", REPLIES_TEXT, REPLIES),
+    ("status", STATUS_TEXT, STATUS),
+    ("delay", DELAY_TEXT, DELAY),
+    ("clear", CLEAR_TEXT, CLEAR),
+    ("room", ROOM_TEXT, ROOM),
+];
 
 #[test]
-fn room(rt: HostRuntime) -> Result<(), Fail> {
-    let text = repeated(rt.alloc(), BEFORE_LONG, "x", 65536, END)?;
-    play(&rt, rt.alloc(), "room", text.as_str(), &ROOM)
+fn plays(rt: HostRuntime) -> Result<(), Fail> {
+    for (name, text, steps) in &PLAYS {
+        let mut inst = made(rt.alloc(), text)??;
+        take_steps(&rt, name, &mut inst, steps);
+    }
+    Ok(())
 }
