@@ -46,7 +46,7 @@ const SLICE_OF_41: &str =
 wait 1 slice
 ";
 
-static ROWS: [Row; 13] = [
+static ROWS: [Row; 17] = [
     // A source whose second read fails: nothing is written.
     Row {
         name: "second read fails, a byte a read",
@@ -149,6 +149,43 @@ static ROWS: [Row; 13] = [
         status: 3,
         printed: Printed::All(&[("fault line 1 form\n", 1)]),
     },
+    // A line of version 2 that is as long as may be, and one byte longer, which is outside the grammar even where it would be skipped.
+    Row {
+        name: "longest line of version 2",
+        script: &[("vxscript 2\n", 1), ("#", 1_048_600)],
+        read: 65_536,
+        read_fails: &[],
+        write_fails: &[],
+        status: 0,
+        printed: Printed::All(&[("vxtrace 2\ndone\n", 1)]),
+    },
+    Row {
+        name: "long line of version 2",
+        script: &[("vxscript 2\n", 1), ("#", 1_048_601)],
+        read: 65_536,
+        read_fails: &[],
+        write_fails: &[],
+        status: 3,
+        printed: Printed::All(&[("vxtrace 2\nfault line 2 form\n", 1)]),
+    },
+    Row {
+        name: "longest step of version 2",
+        script: &[("vxscript 2\n7 inst 5 ", 1), ("#", 1_048_591)],
+        read: 65_536,
+        read_fails: &[],
+        write_fails: &[],
+        status: 3,
+        printed: Printed::All(&[("vxtrace 2\nfault line 2 json\n", 1)]),
+    },
+    Row {
+        name: "long step of version 2",
+        script: &[("vxscript 2\n7 inst 5 ", 1), ("#", 1_048_592)],
+        read: 65_536,
+        read_fails: &[],
+        write_fails: &[],
+        status: 3,
+        printed: Printed::All(&[("vxtrace 2\nfault line 2 form\n", 1)]),
+    },
     // A write of 65,537 bytes is made whole, in slices of 256 transfers: its 65,540 take 257 polls, the last of 4.
     Row {
         name: "a write in 257 polls",
@@ -222,14 +259,6 @@ bus 1 c3F c40 c25",
         ]),
     },
 ];
-
-/// The create_link of xid 1 and client 42 for the text gpib0,5, in fragments of 10 bytes, of none, and of 54, the last.
-const FRAGMENTS: &str =
-    "0000000A0000000100000000000000000000800000360002000607AF000000010000000A000000000000000000000000000000000000002A00000000000000000000000767706962302C3500";
-
-/// What is printed where it is answered: error 0, link 1, port 9011, 262,144 bytes.
-const ONE_LINK: &[u8] =
-    b"out 1 8000002800000001000000010000000000000000000000000000000000000000000000010000233300040000\ndone\n";
 
 /// Adds a spare instrument of this name.
 fn add_spare(alloc: Global, name: &str, rack: &mut Vec<Spare<Echo>>) -> Result<(), AllocError> {
@@ -367,28 +396,6 @@ fn plays(rt: HostRuntime) -> Result<(), Fail> {
     for row in &ROWS {
         let is_so = is_right(rt.alloc(), row)?;
         assert!(rt; is_so, "{}", row.name);
-    }
-    Ok(())
-}
-
-/// Whether the link is made where the stream comes in two pieces, cut behind so many digits.
-fn is_made_of_two(alloc: Global, digits: usize) -> Result<bool, AllocError> {
-    let Some((front, rest)) = FRAGMENTS.split_at_checked(digits) else {
-        return Ok(false);
-    };
-    let script = format!(in alloc; "up 1 core\nin 1 {front}\nin 1 {rest}\n")?;
-    let mut source = MemSource::new(script.into_bytes(), 100, Vec::new(alloc));
-    let mut sink = MemSink::new(Vec::new(alloc), Vec::new(alloc));
-    let status = play(alloc, &["echo"], &["run"], &mut source, &mut sink)?;
-    Ok(status == 0 && sink.bytes() == ONE_LINK)
-}
-
-// A record in fragments, cut in two behind each of its bytes but the last.
-#[test]
-fn streams_cut_anywhere(rt: HostRuntime) -> Result<(), Fail> {
-    for cut in 1..76 {
-        let is_made = is_made_of_two(rt.alloc(), 2 * cut)?;
-        assert!(rt; is_made, "cut behind byte {cut}");
     }
     Ok(())
 }

@@ -1,5 +1,4 @@
-ghost use Rattle.std.specs.Prelude.{◌≡◌, ◌<◌, ◌≤◌, true, length, IsTrue};
-ghost use Rattle.vx_trace.specs.Text.{is_cause};
+//! Lines that are printed, both ways. That no other text is read is what the readers promise.
 
 use vx_488::Transfer;
 use vx_calls::Role;
@@ -109,7 +108,7 @@ static LINES: [(Line<'static>, &[u8]); 25] = [
     ),
     (
         Line::FaultLine {
-            line: 18446744073709551615,
+            line: u64::MAX,
             word: b"absent",
         },
         b"fault line 18446744073709551615 absent\n",
@@ -139,294 +138,77 @@ static LINES: [(Line<'static>, &[u8]); 25] = [
     (Line::Usage, b"usage: vxplay COMMAND\n"),
 ];
 
-/// Whether a line is written as this text, into room for 72 bytes of which the rest stays as it was.
-fn is_written(line: &Line, text: &[u8]) -> bool {
-    let mut out = [b'#'; 72];
-    line.is_whole()
-        && line.is_first()
-        && put_line(line, &mut out) == Ok(text.len())
-        && out.starts_with(text)
-        && out.get(text.len()) == Some(&b'#')
-}
-
-/// Whether a line has no room in a byte less than its text has.
-fn is_full(line: &Line, text: &[u8]) -> bool {
-    let mut out = [0; 72];
-    line.is_whole()
-        && line.is_first()
-        && text.len() <= 72
-        && put_line(line, &mut out[..text.len().saturating_sub(1)]) == Err(Full)
-}
-
-/// Whether a text of at most 72 bytes is read as this line, or as none.
-fn is_read(text: &[u8], line: Option<Line>) -> bool {
-    let len = text.len();
-    let mut moves = [Transfer::Ifc; 72];
-    let mut bytes = [0; 72];
-    len <= 72 && read_line(text, &mut moves[..len], &mut bytes[..len]) == line
-}
-
-/// Whether a line is this text, both ways.
-fn is_text_of(line: Line<'_>, text: &[u8]) -> bool {
-    is_written(&line, text) && is_full(&line, text) && is_read(text, Some(line))
-}
-
-// Each line is written, and read back.
-#[test]
-fn lines(rt: HostRuntime) {
-    for (place, (line, text)) in LINES.iter().enumerate() {
-        assert!(rt; is_text_of(*line, text), "line {place}");
-    }
-}
-
-/// Texts that are no output line of version 1.
-static NO_LINES: [&[u8]; 65] = [
-    b"",
-    b"\n",
-    b"done",
-    b"done\n\n",
-    b"done \n",
-    b" done\n",
-    b"done\r\n",
-    b"Done\n",
-    b"usage\n",
-    b"usage: vxplay command\n",
-    b"fault\n",
-    b"fault line\n",
-    b"fault line 1\n",
-    b"fault line 1 \n",
-    b"fault line 1 forms\n",
-    b"fault line 1 form form\n",
-    b"fault line 01 form\n",
-    b"fault line 18446744073709551616 form\n",
-    b"bus 1\n",
-    b"bus 1 \n",
-    b"bus 1 c3F \n",
-    b"bus 1 c3F  c20\n",
-    b"bus  1 c3F\n",
-    b"bus 1  c3F\n",
-    b"bus c3F\n",
-    b"bus 1 c3f\n",
-    b"bus 1 c3\n",
-    b"bus 1 c3F2\n",
-    b"bus 1 C3F\n",
-    b"bus 1 ren2\n",
-    b"bus 1 ren\n",
-    b"bus 1 own\n",
-    b"bus 1 own030\n",
-    b"bus 1 own256\n",
-    b"bus 4294967296 ifc\n",
-    b"out 1\n",
-    b"out 1 \n",
-    b"out 1 0\n",
-    b"out 1 0a\n",
-    b"out 1 0A 0A\n",
-    b"out +1 0A\n",
-    b"irq 1 NONE\n",
-    b"wait 1 lock\n",
-    b"wait 1 slices\n",
-    b"wait 1 slice \n",
-    b"wait 1 behind\n",
-    b"wait 1 behind \n",
-    b"wait 1 behind 02\n",
-    b"wait 1 behind 4294967296\n",
-    b"wait 1 behind 2 3\n",
-    b"wait 1 Behind 2\n",
-    b"gone 1 up\n",
-    b"vxtrace 2\n",
-    b"up 1 core\n",
-    b"up 1 abort\n",
-    b"call 1 0A\n",
-    b"call 1 \n",
-    b"begin 1\n",
-    b"dial 1 ok\n",
-    b"dial 1 fail\n",
-    b"srq 0\n",
-    b"srq 1\n",
-    b"0 srq 1\n",
-    b"5 out 1 0A\n",
-    b"0 wait 2 held\n",
-];
-
-#[test]
-fn no_lines(rt: HostRuntime) {
-    for (place, text) in NO_LINES.iter().enumerate() {
-        assert!(rt; is_read(text, None), "text {place}");
-    }
-}
-
-/// One room for all lines of a caller, whatever their numbers: a bus line of at most 8 transfers is written.
-fn put_bus(conn: u32, moves: &[Transfer], out: &mut [u8; 72]) -> bool
-    requires some { 0 < length moves.now }
-    requires few { length moves.now ≤ 8 }
-    ensures { result ≡ true }
-{
-    put_line(&Line::Bus { conn, moves }, out).is_ok()
-}
-
-/// A reply of at most 28 bytes is written.
-fn put_out(conn: u32, bytes: &[u8], out: &mut [u8; 72]) -> bool
-    requires some { 0 < length bytes.now }
-    requires few { length bytes.now ≤ 28 }
-    ensures { result ≡ true }
-{
-    put_line(&Line::Out { conn, bytes }, out).is_ok()
-}
-
-/// A refused step is written, whatever its cause.
-fn put_fault(line: u64, word: &[u8], out: &mut [u8; 72]) -> bool
-    requires { IsTrue (is_cause word.now) }
-    ensures { result ≡ true }
-{
-    put_line(&Line::FaultLine { line, word }, out).is_ok()
-}
-
-/// The longest lines of their kinds, into one room: whether each was written, and what stands at its last place.
-fn longest_lines() -> [(bool, u8); 5] {
-    let mut out = [0; 72];
-    let lock = Line::WaitLock {
-        conn: u32::MAX,
-        lid: u32::MAX,
-    };
-    let behind = Line::WaitBehind {
-        conn: u32::MAX,
-        by: u32::MAX,
-    };
-    [
-        (
-            put_bus(u32::MAX, &[Transfer::Own(255); 8], &mut out),
-            out[70],
-        ),
-        (put_out(u32::MAX, &[0xAA; 28], &mut out), out[71]),
-        (put_fault(u64::MAX, b"absent", &mut out), out[38]),
-        (put_line(&lock, &mut out) == Ok(32), out[31]),
-        (put_line(&behind, &mut out) == Ok(34), out[33]),
-    ]
-}
-
-#[test]
-fn longest(rt: HostRuntime) {
-    assert_eq!(rt; longest_lines(), [(true, b'\n'); 5]);
-}
-
 /// Lines of version 2: the moment and the line, their text, and the moment that is read of it.
-static LINES2: [(u64, Line<'static>, &[u8], u64); 31] = [
+static LINES2: [(u64, Line<'static>, &[u8], u64); 21] = [
     (0, Line::TraceHead, b"vxtrace 2\n", 0),
+    (u64::MAX, Line::TraceHead, b"vxtrace 2\n", 0),
     (
-        0,
-        Line::Up {
-            conn: 1,
-            role: Role::Core,
-        },
-        b"0 up 1 core\n",
-        0,
-    ),
-    (
-        0,
-        Line::Up {
-            conn: 4294967295,
-            role: Role::Abort,
-        },
-        b"0 up 4294967295 abort\n",
-        0,
-    ),
-    (
-        0,
-        Line::Call {
-            conn: 1,
-            bytes: b"\x00\x0A\xF9\xFF",
-        },
-        b"0 call 1 000AF9FF\n",
-        0,
-    ),
-    (
-        0,
-        Line::Call {
-            conn: 4294967295,
-            bytes: b"",
-        },
-        b"0 call 4294967295 \n",
-        0,
-    ),
-    (0, Line::Begin { conn: 0 }, b"0 begin 0\n", 0),
-    (0, Line::DialDone { conn: 3, up: true }, b"0 dial 3 ok\n", 0),
-    (
-        0,
-        Line::DialDone { conn: 3, up: false },
-        b"0 dial 3 fail\n",
-        0,
-    ),
-    (0, Line::Srq { level: false }, b"0 srq 0\n", 0),
-    (0, Line::Srq { level: true }, b"0 srq 1\n", 0),
-    (0, Line::Done, b"done\n", 0),
-    (18446744073709551615, Line::TraceHead, b"vxtrace 2\n", 0),
-    (
-        18446744073709551615,
+        u64::MAX,
         Line::Up {
             conn: 1,
             role: Role::Core,
         },
         b"18446744073709551615 up 1 core\n",
-        18446744073709551615,
+        u64::MAX,
     ),
     (
-        18446744073709551615,
+        u64::MAX,
         Line::Up {
             conn: 4294967295,
             role: Role::Abort,
         },
         b"18446744073709551615 up 4294967295 abort\n",
-        18446744073709551615,
+        u64::MAX,
     ),
     (
-        18446744073709551615,
+        u64::MAX,
         Line::Call {
             conn: 1,
             bytes: b"\x00\x0A\xF9\xFF",
         },
         b"18446744073709551615 call 1 000AF9FF\n",
-        18446744073709551615,
+        u64::MAX,
     ),
     (
-        18446744073709551615,
+        u64::MAX,
         Line::Call {
             conn: 4294967295,
             bytes: b"",
         },
         b"18446744073709551615 call 4294967295 \n",
-        18446744073709551615,
+        u64::MAX,
     ),
     (
-        18446744073709551615,
+        u64::MAX,
         Line::Begin { conn: 0 },
         b"18446744073709551615 begin 0\n",
-        18446744073709551615,
+        u64::MAX,
     ),
     (
-        18446744073709551615,
+        u64::MAX,
         Line::DialDone { conn: 3, up: true },
         b"18446744073709551615 dial 3 ok\n",
-        18446744073709551615,
+        u64::MAX,
     ),
     (
-        18446744073709551615,
+        u64::MAX,
         Line::DialDone { conn: 3, up: false },
         b"18446744073709551615 dial 3 fail\n",
-        18446744073709551615,
+        u64::MAX,
     ),
     (
-        18446744073709551615,
+        u64::MAX,
         Line::Srq { level: false },
         b"18446744073709551615 srq 0\n",
-        18446744073709551615,
+        u64::MAX,
     ),
     (
-        18446744073709551615,
+        u64::MAX,
         Line::Srq { level: true },
         b"18446744073709551615 srq 1\n",
-        18446744073709551615,
+        u64::MAX,
     ),
-    (18446744073709551615, Line::Done, b"done\n", 0),
+    (u64::MAX, Line::Done, b"done\n", 0),
     (
         7,
         Line::Bus {
@@ -467,130 +249,54 @@ static LINES2: [(u64, Line<'static>, &[u8], u64); 31] = [
     (9, Line::Usage, b"usage: vxplay COMMAND\n", 0),
 ];
 
-/// Texts that are no line of version 2: without the moment that the line has, with one that it hasn't, or with one that
-/// no number writes so.
-static NO_LINES2: [&[u8]; 63] = [
-    b"",
-    b"\n",
-    b"0",
-    b"0\n",
-    b"0 \n",
-    b"up 1 core\n",
-    b"call 1 0A\n",
-    b"begin 1\n",
-    b"dial 1 ok\n",
-    b"srq 1\n",
-    b"bus 1 ifc\n",
-    b"out 1 0A\n",
-    b"wait 2 held\n",
-    b"gone 5 down\n",
-    b" srq 1\n",
-    b"00 srq 1\n",
-    b"01 srq 1\n",
-    b"+1 srq 1\n",
-    b"-0 srq 1\n",
-    b"0x1 srq 1\n",
-    b"18446744073709551616 srq 1\n",
-    b"99999999999999999999 srq 1\n",
-    b"1  srq 1\n",
-    b" 1 srq 1\n",
-    b"1\tsrq 1\n",
-    b"1 1 srq 1\n",
-    b"0 vxtrace 2\n",
-    b"0 done\n",
-    b"0 fault line 3 form\n",
-    b"0 fault long\n",
-    b"0 usage: vxplay COMMAND\n",
-    b"vxtrace 1\n",
-    b"vxtrace 2 \n",
-    b"vxtrace 2",
-    b"vxtrace\n",
-    b"0 up 1\n",
-    b"0 up 1 \n",
-    b"0 up 1 Core\n",
-    b"0 up 1 core \n",
-    b"0 up 01 core\n",
-    b"0 up 4294967296 core\n",
-    b"0 call 1\n",
-    b"0 call 1  \n",
-    b"0 call 1 0\n",
-    b"0 call 1 0a\n",
-    b"0 call 1 0A 0A\n",
-    b"0 begin\n",
-    b"0 begin \n",
-    b"0 begin 1 \n",
-    b"0 begin 01\n",
-    b"0 begin 1 2\n",
-    b"0 begin 4294967296\n",
-    b"0 dial 1\n",
-    b"0 dial 1 OK\n",
-    b"0 dial 1 fail \n",
-    b"0 srq\n",
-    b"0 srq 2\n",
-    b"0 srq 01\n",
-    b"0 srq 1",
-    b"0 srq 1\n\n",
-    b"0 srq 1\r\n",
-    b"0 out 1 \n",
-    b"0 gone 1 up\n",
-];
+/// What a line is written as in version 1, or at this moment in version 2; nothing where the version has no such line.
+fn put(moment: Option<u64>, line: &Line, out: &mut [u8]) -> Option<Result<usize, Full>> {
+    if !line.is_whole() {
+        return None;
+    }
+    match moment {
+        Some(moment) => Some(put_line2(moment, line, out)),
+        None if line.is_first() => Some(put_line(line, out)),
+        None => None,
+    }
+}
 
-/// Whether a line is written as this text at this moment, into room for 72 bytes of which the rest stays as it was.
-fn is_written2(moment: u64, line: &Line, text: &[u8]) -> bool {
+/// Whether a line is written as this text, into room for 72 bytes of which the rest stays as it was.
+fn is_written(moment: Option<u64>, line: &Line, text: &[u8]) -> bool {
     let mut out = [b'#'; 72];
-    line.is_whole()
-        && put_line2(moment, line, &mut out) == Ok(text.len())
+    put(moment, line, &mut out) == Some(Ok(text.len()))
         && out.starts_with(text)
         && out.get(text.len()) == Some(&b'#')
 }
 
-/// Whether a line has no room in a byte less than its text at this moment has, and leaves that room as it was.
-fn is_full2(moment: u64, line: &Line, text: &[u8]) -> bool {
-    let mut out = [b'#'; 72];
-    line.is_whole()
-        && text.len() <= 72
-        && put_line2(moment, line, &mut out[..text.len().saturating_sub(1)]) == Err(Full)
-        && out == [b'#'; 72]
-}
-
-/// Whether a text of at most 72 bytes is read as this moment and line, or as none.
-fn is_read2(text: &[u8], line: Option<(u64, Line)>) -> bool {
+/// Whether a text of at most 72 bytes is read as this line of version 1.
+fn is_read(text: &[u8], line: Line) -> bool {
     let len = text.len();
     let mut moves = [Transfer::Ifc; 72];
     let mut bytes = [0; 72];
-    len <= 72 && read_line2(text, &mut moves[..len], &mut bytes[..len]) == line
+    len <= 72 && read_line(text, &mut moves[..len], &mut bytes[..len]) == Some(line)
 }
 
-// Each line of version 2 is written at its moment, and read back with it.
+/// The same of version 2, with its moment.
+fn is_read2(text: &[u8], moment: u64, line: Line) -> bool {
+    let len = text.len();
+    let mut moves = [Transfer::Ifc; 72];
+    let mut bytes = [0; 72];
+    len <= 72 && read_line2(text, &mut moves[..len], &mut bytes[..len]) == Some((moment, line))
+}
+
+// Each line is written, and read back; of version 2 at its moment, and with it.
 #[test]
-fn lines2(rt: HostRuntime) {
+fn lines(rt: HostRuntime) {
+    for (place, (line, text)) in LINES.iter().enumerate() {
+        let is_so = is_written(None, line, text) && is_read(text, *line);
+        assert!(rt; is_so, "line {place}");
+    }
     for (place, (moment, line, text, read)) in LINES2.iter().enumerate() {
-        let is_put = is_written2(*moment, line, text) && is_full2(*moment, line, text);
+        let is_so = is_written(Some(*moment), line, text);
         assert!(rt;
-            is_put && is_read2(text, Some((*read, *line))),
-            "line {place}"
+            is_so && is_read2(text, *read, *line),
+            "line {place} of version 2"
         );
     }
-}
-
-#[test]
-fn no_lines2(rt: HostRuntime) {
-    for (place, text) in NO_LINES2.iter().enumerate() {
-        assert!(rt; is_read2(text, None), "text {place}");
-    }
-}
-
-/// A message of at most 17 bytes is written at every moment.
-fn put_call(moment: u64, conn: u32, bytes: &[u8], out: &mut [u8; 72]) -> bool
-    requires { length bytes.now ≤ 17 }
-    ensures { result ≡ true }
-{
-    put_line2(moment, &Line::Call { conn, bytes }, out).is_ok()
-}
-
-#[test]
-fn longest2(rt: HostRuntime) {
-    let mut out = [0; 72];
-    assert!(rt; put_call(u64::MAX, u32::MAX, &[0xAA; 17], &mut out));
-    assert_eq!(rt; out[71], b'\n');
 }
