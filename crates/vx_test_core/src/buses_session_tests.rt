@@ -1,12 +1,17 @@
-//! Links over four buses. The records are those of RFC 5531, sections 9 and 11, and of VXI-11.
+//! Links over four buses, and over the first two of them. The records are those of RFC 5531, sections 9 and 11, and of VXI-11.
+ghost use Rattle.vx_buses.specs.Four.{Each};
+ghost use Rattle.vx_buses.specs.Passing.{passes_shown, IsOf};
+ghost use Rattle.vx_buses.specs.Standing.{gates_shown};
 
-use crate::buses_tools::{fleet, serve_many};
+use crate::buses_tools::fleet;
 use crate::record_tools::{are_words, words};
 use std::alloc::Global;
 use std::sync::Wait;
-use std::test::Fail;
+use vx_bus_traits::Bus;
+use vx_buses::{BusPass, Buses, Count, Fleet, FleetWorker};
+use vx_calls::Role;
 use vx_memory::MemLink;
-use vx_session::{End, Linked, NoTools, Room};
+use vx_session::{End, Linked, NoTools, Room, serve_link};
 
 // create_link of `gpib2,5` and of `GPIB0,5`; device_write of `A` with END on links 3 and 2; destroy_intr_chan; create_intr_chan;
 // device_read on link 3, and on link 1 with no time; create_link of `gpib1,5` and of `gpib3,5`; device_readstb on links 1 to 4
@@ -37,22 +42,90 @@ const TOOK: [u32; 135] = [
     0, 0, 0, 0, 0, 13,
 ];
 
-/// Serves a link by four gateways of its own.
-fn serve<R: Wait>(rt: &R, alloc: Global, link: &mut MemLink) -> Option<Linked> {
-    let room = Room::new(alloc).ok()?;
+// create_link of `gpib1,5`, of `GPIB2,5` and of `gpib3,5`; device_readstb on links 2, 3 and 4
+const FEW: [u32; 96] = [
+    0x80000040, 1, 0, 2, 0x0607AF, 1, 10, 0, 0, 0, 0, 42, 0, 0, 7, 0x67706962, 0x312C3500,
+    0x80000040, 2, 0, 2, 0x0607AF, 1, 10, 0, 0, 0, 0, 42, 0, 0, 7, 0x47504942, 0x322C3500,
+    0x80000040, 3, 0, 2, 0x0607AF, 1, 10, 0, 0, 0, 0, 42, 0, 0, 7, 0x67706962, 0x332C3500,
+    0x80000038, 4, 0, 2, 0x0607AF, 1, 13, 0, 0, 0, 0, 2, 0, 0, 10000, 0x80000038, 5, 0, 2,
+    0x0607AF, 1, 13, 0, 0, 0, 0, 3, 0, 0, 10000, 0x80000038, 6, 0, 2, 0x0607AF, 1, 13, 0, 0, 0, 0,
+    4, 0, 0, 10000,
+];
+
+// link 2, no device, no device; the status byte of the echo of bus 1; no links 3 and 4
+const FEW_TOOK: [u32; 60] = [
+    0x80000028, 1, 1, 0, 0, 0, 0, 0, 2, 9011, 262144, 0x80000028, 2, 1, 0, 0, 0, 0, 3, 0, 0, 0,
+    0x80000028, 3, 1, 0, 0, 0, 0, 3, 0, 0, 0, 0x80000020, 4, 1, 0, 0, 0, 0, 0, 11, 0x80000020, 5,
+    1, 0, 0, 0, 0, 4, 0, 0x80000020, 6, 1, 0, 0, 0, 0, 4, 0,
+];
+
+// How many buses are served, what a link gives, and what it takes.
+static ROWS: [(Count, &[u32], &[u32]); 2] = [
+    (Count::Four, &GIVES, &TOOK),
+    (Count::Two, &FEW, &FEW_TOOK),
+];
+
+/// Serves a link by so many of these buses.
+fn serve_by<R: Wait, B: Bus>(
+    rt: &R,
+    alloc: Global,
+    buses: &Buses<B>,
+    passes: BusPass<B>,
+    count: Count,
+    link: &mut MemLink,
+    room: &mut Room,
+) -> Linked
+    requires { Each IsOf (passes_shown passes) (gates_shown buses.now) }
+{
+    let mut held = Some(passes);
+    let desk = Fleet {
+        worker: FleetWorker {
+            rt,
+            buses,
+            count,
+            conns: [0; 4],
+            role: Role::Core,
+        },
+        held: &mut held,
+        clock: &mut NoTools::new(),
+        pause: &mut NoTools::new(),
+    };
+    let (_desk, how) = serve_link(rt, alloc, desk, Role::Core, link, room);
+    how
+}
+
+/// Serves a link by so many of four gateways of its own.
+fn serve<R: Wait>(
+    rt: &R,
+    alloc: Global,
+    count: Count,
+    link: &mut MemLink,
+    room: &mut Room,
+) -> Option<Linked> {
     let (buses, passes) = fleet(alloc)?;
-    let mut pause = NoTools::new();
-    let (_passes, how) = serve_many(rt, alloc, &buses, passes, link, &mut pause, room);
-    Some(how)
+    Some(serve_by(rt, alloc, &buses, passes, count, link, room))
+}
+
+/// Serves a link that gives these words: how it ends, and whether it takes these.
+fn goes<R: Wait>(
+    rt: &R,
+    alloc: Global,
+    count: Count,
+    gives: &[u32],
+    took: &[u32],
+) -> Option<(Linked, bool)> {
+    let mut room = Room::new(alloc).ok()?;
+    let gives = words(alloc, gives, &[]).ok()?;
+    let mut link = MemLink::new(gives, 100, Vec::new(alloc), Vec::new(alloc));
+    let how = serve(rt, alloc, count, &mut link, &mut room)?;
+    Some((how, are_words(link.bytes(), took)))
 }
 
 #[test]
-fn calls_go_to_their_buses(rt: HostRuntime) -> Result<(), Fail> {
-    let alloc = rt.alloc();
-    let gives = words(alloc, &GIVES, &[])?;
-    let mut link = MemLink::new(gives, 100, Vec::new(alloc), Vec::new(alloc));
-    let how = serve(&rt, alloc, &mut link);
-    let is_told = are_words(link.bytes(), &TOOK);
-    assert!(rt; how == Some(Linked::Ended(End::Closed)) && is_told);
-    Ok(())
+fn calls_go_to_their_buses(rt: HostRuntime) {
+    let closed = Linked::Ended(End::Closed);
+    for (place, (count, gives, took)) in ROWS.iter().enumerate() {
+        let came = goes(&rt, rt.alloc(), *count, gives, took);
+        assert!(rt; came == Some((closed, true)), "row {place}");
+    }
 }

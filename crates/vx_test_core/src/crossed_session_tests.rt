@@ -5,7 +5,7 @@ ghost use Rattle.vx_gate.specs.Gates.{gate_of};
 ghost use Rattle.std.specs.Thread.{IsSync};
 
 use crate::crossing_tools::{Crossing, Flags, Pausing, Ran, Side, TURNS};
-use crate::gateway_tools::{Counting, Gateway, gateway};
+use crate::gateway_tools::{Gateway, gateway};
 use std::alloc::Global;
 use std::sync::Wait;
 use std::test::Fail;
@@ -15,8 +15,24 @@ use vx_bus_traits::Bus;
 use vx_calls::Role;
 use vx_core::Core;
 use vx_gate::{Pass, Turns};
+use vx_io_traits::Clock;
 use vx_memory::MemDial;
 use vx_session::{End, Room, core_session, join};
+
+/// Tells one more each time.
+#[derive(Drop)]
+struct Counting {
+    told: u64,
+}
+
+impl Clock for Counting {
+    ghost told = { λ c. c.told };
+
+    fn now(&mut self) -> u64 {
+        self.told = self.told.saturating_add(1);
+        self.told
+    }
+}
 
 /// Runs the session of a side, by a pass of its own.
 fn run_side<R: Wait, B: Bus, T: Turns<Core<B>>>(

@@ -3,11 +3,7 @@
 #![tactic(auto)]
 
 #[cfg(test)]
-mod asking_tools;
-#[cfg(test)]
 mod buses_crossed_tests;
-#[cfg(test)]
-mod buses_few_tests;
 #[cfg(test)]
 mod buses_number_tests;
 #[cfg(test)]
@@ -23,8 +19,6 @@ mod crossed_session_tests;
 #[cfg(test)]
 mod crossing_tools;
 #[cfg(test)]
-mod exchange_tests;
-#[cfg(test)]
 mod gateway_tools;
 #[cfg(test)]
 mod guard_run_tests;
@@ -35,11 +29,11 @@ mod guard_tools;
 #[cfg(test)]
 mod names_tests;
 #[cfg(test)]
-mod pause_tests;
-#[cfg(test)]
 mod policy_tests;
 #[cfg(test)]
 mod pump_tests;
+#[cfg(test)]
+mod pump_tools;
 #[cfg(test)]
 mod record_tools;
 #[cfg(test)]
@@ -47,12 +41,4 @@ mod ruled_buses_tests;
 #[cfg(test)]
 mod run_tools;
 #[cfg(test)]
-mod serving_tools;
-#[cfg(test)]
 mod session_tests;
-#[cfg(test)]
-mod slice_tests;
-#[cfg(test)]
-mod told_tests;
-#[cfg(test)]
-mod turns_tests;

@@ -2,16 +2,18 @@
 //! sections 9 and 11, and of VXI-11.
 ghost use Rattle.std.specs.Prelude.{◌≡◌};
 
-use crate::gateway_tools::{echo_core, gate_round};
+use crate::gateway_tools::gateway;
 use crate::guard_tools::{CREATE_AND_WRITE, WRITTEN};
 use crate::record_tools::{are_words, words};
 use std::alloc::Global;
 use std::sync::Wait;
+use vx_bus_traits::Bus;
 use vx_calls::Role;
-use vx_io_traits::Link;
+use vx_core::Core;
+use vx_gate::{Pass, Turns};
 use vx_memory::MemLink;
 use vx_names::{NameRefused, NameTable, Named};
-use vx_session::{Desk, End, NoTools, OneBus, Room, Worker, serve_session};
+use vx_session::{End, Linked, NoTools, OneBus, Room, Worker, serve_link};
 
 /// A name, and the device text that it is to stand for.
 type Pair = (&'static [u8], &'static [u8]);
@@ -81,11 +83,11 @@ fn a_table_is_full(rt: HostRuntime) {
     assert!(rt; fill(rt.alloc()) == Some((Some(64), full)));
 }
 
-/// A table of names, or that there is none, what a link gives, and what it takes.
+/// A table of names, what a link gives, and what it takes.
 #[derive(Clone, Copy)]
 struct Row {
     name: &'static str,
-    names: Option<&'static [Pair]>,
+    names: &'static [Pair],
     gives: &'static [u32],
     took: &'static [u32],
 }
@@ -114,52 +116,40 @@ const INST0_TWICE: &[Pair] = &[(b"inst0", b"inst1"), (b"inst1", b"gpib0,5")];
 
 const INST0_NOWHERE: &[Pair] = &[(b"inst0", b"gpib0,31")];
 
-static ROWS: [Row; 8] = [
+static ROWS: [Row; 6] = [
     Row {
         name: "a name",
-        names: Some(INST0),
+        names: INST0,
         gives: &BY_NAME,
         took: &WRITTEN,
     },
     Row {
         name: "a device text beside a name",
-        names: Some(INST0),
+        names: INST0,
         gives: &CREATE_AND_WRITE,
         took: &WRITTEN,
-    },
-    Row {
-        name: "a device text without a table",
-        names: None,
-        gives: &CREATE_AND_WRITE,
-        took: &WRITTEN,
-    },
-    Row {
-        name: "no name without a table",
-        names: None,
-        gives: &BY_NAME,
-        took: &NO_DEVICE,
     },
     Row {
         name: "no name in a table",
-        names: Some(&[]),
+        names: &[],
         gives: &BY_NAME,
         took: &NO_DEVICE,
     },
     Row {
         name: "the second name",
-        names: Some(INST0_LAST),
+        names: INST0_LAST,
         gives: &BY_NAME,
         took: &WRITTEN,
     },
     Row {
         name: "a name of a name",
-        names: Some(INST0_TWICE),
+        names: INST0_TWICE,
         gives: &BY_NAME,
         took: &NO_DEVICE,
     },
     Row {
         name: "a name of no device",
-        names: Some(INST0_NOWHERE),
+        names: INST0_NOWHERE,
         gives: &BY_NAME,
         took: &NO_ADDRESS,
     },
@@ -174,39 +164,23 @@ fn table_of(alloc: Global, pairs: &[Pair]) -> Option<NameTable> {
     Some(names)
 }
 
-/// Has the session of a core connection at a desk, and answers how it ended.
-fn serve_at<R: Wait, K: Desk + Drop, L: Link>(
+/// Serves a link at a desk with these names.
+fn serve_at<R: Wait, B: Bus, T: Turns<Core<B>>>(
     rt: &R,
     alloc: Global,
-    desk: K,
-    link: &mut L,
-) -> Option<End>
-    requires { K.free desk }
-{
-    let mut room = Room::new(alloc).ok()?;
-    let (desk, joined) = desk.join(alloc, Role::Core);
-    match joined {
-        Ok(()) => {
-            let (_desk, end) = serve_session(rt, desk, Role::Core, link, &mut room);
-            Some(end)
-        }
-        Err(_) => None,
-    }
-}
-
-/// The same at the desk of a gateway of its own, with these names or without a table.
-fn serve<R: Wait>(
-    rt: &R,
-    alloc: Global,
-    names: Option<&NameTable>,
+    turns: &T,
+    pass: Pass<Core<B>>,
+    names: &NameTable,
+    room: &mut Room,
     link: &mut MemLink,
-) -> Option<End> {
-    let (gate, pass) = gate_round(alloc, echo_core(alloc, 0)?)?;
+) -> Linked
+    requires { pass.gate ≡ T.gate turns.now }
+{
     let mut held = Some(pass);
     let desk = OneBus {
         worker: Worker {
             rt,
-            turns: &gate,
+            turns,
             conn: 0,
             role: Role::Core,
         },
@@ -215,28 +189,37 @@ fn serve<R: Wait>(
         pause: &mut NoTools::new(),
         dial: &mut NoTools::new(),
     };
-    match names {
-        None => serve_at(rt, alloc, desk, link),
-        Some(names) => serve_at(rt, alloc, Named { desk, names }, link),
-    }
+    let (_desk, how) = serve_link(rt, alloc, Named { desk, names }, Role::Core, link, room);
+    how
 }
 
-/// Has the session of a row, and answers how it ended and whether the link took what it should.
-fn went<R: Wait>(rt: &R, alloc: Global, row: &Row) -> Option<(End, bool)> {
-    let names = match row.names {
-        None => None,
-        Some(pairs) => Some(table_of(alloc, pairs)?),
-    };
+/// The same at a gateway of its own.
+fn serve<R: Wait>(
+    rt: &R,
+    alloc: Global,
+    names: &NameTable,
+    room: &mut Room,
+    link: &mut MemLink,
+) -> Option<Linked> {
+    let (gate, pass) = gateway(alloc, &[])?;
+    Some(serve_at(rt, alloc, &gate, pass, names, room, link))
+}
+
+/// Serves the link of a row: how it ends, and whether it takes what it should.
+fn goes<R: Wait>(rt: &R, alloc: Global, row: &Row) -> Option<(Linked, bool)> {
+    let mut room = Room::new(alloc).ok()?;
+    let names = table_of(alloc, row.names)?;
     let gives = words(alloc, row.gives, &[]).ok()?;
     let mut link = MemLink::new(gives, 4096, Vec::new(alloc), Vec::new(alloc));
-    let end = serve(rt, alloc, names.as_ref(), &mut link)?;
-    Some((end, are_words(link.bytes(), row.took)))
+    let how = serve(rt, alloc, &names, &mut room, &mut link)?;
+    Some((how, are_words(link.bytes(), row.took)))
 }
 
 #[test]
 fn sessions_at_a_desk_with_names(rt: HostRuntime) {
+    let closed = Linked::Ended(End::Closed);
     for row in &ROWS {
-        let came = went(&rt, rt.alloc(), row);
-        assert!(rt; came == Some((End::Closed, true)), "{}", row.name);
+        let came = goes(&rt, rt.alloc(), row);
+        assert!(rt; came == Some((closed, true)), "{}", row.name);
     }
 }

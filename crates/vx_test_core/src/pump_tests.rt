@@ -9,8 +9,10 @@ ghost use Rattle.vx_exchange.specs.declared.record.TheConstants.{REPLY_ROOM};
 ghost use Rattle.vx_group.specs.Phases.{Idle};
 ghost use Rattle.vx_session.specs.Turning.{phase_at};
 
-use crate::gateway_tools::{Pauses, echo_core, gate_round};
-use crate::record_tools::{are_words, handle};
+use crate::gateway_tools::gate_round;
+use crate::pump_tools::{echo_core, handle};
+use crate::record_tools::are_words;
+use crate::session_tests::Pauses;
 use std::alloc::{AllocError, Global};
 use std::sync::Wait;
 use std::test::Fail;

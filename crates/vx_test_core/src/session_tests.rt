@@ -1,23 +1,20 @@
 //! Links that are served, each by a gateway of its own. The records are those of RFC 5531, sections 9 and 11, and of VXI-11.
-ghost use Rattle.std.specs.Prelude.{◌≡◌};
-
 use crate::gateway_tools::gateway;
-use crate::record_tools::{are_words, words};
-use crate::serving_tools::{make_outside, serve};
+use crate::record_tools::{add_words, are_words, words};
 use std::alloc::{AllocError, Global};
 use std::sync::Wait;
-use std::test::Fail;
-use vx_io_traits::Rang;
+use vx_io_traits::{Clock, Pause, Rang};
 use vx_memory::{MemClock, MemDial, MemLink};
-use vx_session::{End, LinkDone, Linked, Room, Tally, abort_link};
+use vx_session::{End, LinkDone, Linked, Room, Tally, core_link};
 
 /// A link, what is outside of its session, and what is to come of it.
 #[derive(Clone, Copy)]
 struct Row {
     name: &'static str,
-    /// The words that the link gives, and bytes behind them.
+    /// The words that the link gives, bytes behind them, and pieces of words behind these.
     gives: &'static [u32],
     rest: &'static [u8],
+    more: &'static [&'static [u32]],
     /// How many bytes a receive gives, at most.
     piece: usize,
     /// Which of its calls fail, of receives and sends together.
@@ -30,6 +27,8 @@ struct Row {
     how: Linked,
     took: &'static [u32],
     rang: &'static [Rang],
+    /// How often the session asks its clock, which it does once a poll, and how often it pauses, where that is looked at.
+    waits: Option<[u64; 2]>,
 }
 
 /// A create_link: xid 1, client 42, no lock, the device `gpib0,5`.
@@ -43,11 +42,19 @@ const CREATED: [u32; 11] = [0x80000028, 1, 1, 0, 0, 0, 0, 0, 1, 9011, 262144];
 /// The reply to arguments that can't be read (RFC 5531, GARBAGE_ARGS).
 const GARBAGE: [u32; 7] = [0x80000018, 1, 1, 0, 0, 0, 4];
 
+/// A device_write of 254 bytes with END on link 1, before its data.
+const WRITE_254: [u32; 16] = [
+    0x8000013C, 2, 0, 2, 0x0607AF, 1, 11, 0, 0, 0, 0, 1, 1000, 0, 8, 254,
+];
+
+const DATA_254: [u32; 64] = [0; 64];
+
 /// The create_link, of which nothing fails.
 const PLAIN: Row = Row {
     name: "a create_link",
     gives: &CREATE,
     rest: &[],
+    more: &[],
     piece: 100,
     fails: &[],
     holds: &[],
@@ -56,11 +63,25 @@ const PLAIN: Row = Row {
     how: Linked::Ended(End::Closed),
     took: &CREATED,
     rang: &[],
+    waits: None,
+};
+
+/// The create_link, which is polled once, and a write of 257 transfers, a slice and one, in two polls: three commands, and 254 bytes.
+/// Behind a call of more than a slice a session pauses once.
+const SLICED: Row = Row {
+    name: "a write of 257 transfers",
+    more: &[&WRITE_254, &DATA_254],
+    piece: 4096,
+    took: &[
+        0x80000028, 1, 1, 0, 0, 0, 0, 0, 1, 9011, 262144, 0x80000020, 2, 1, 0, 0, 0, 0, 0, 254,
+    ],
+    waits: Some([3, 1]),
+    ..PLAIN
 };
 
 const HOST: u32 = 0x7F000001;
 
-static ROWS: [Row; 19] = [
+static ROWS: [Row; 26] = [
     PLAIN,
     Row {
         name: "a create_link by single bytes",
@@ -231,70 +252,194 @@ static ROWS: [Row; 19] = [
         ],
         ..PLAIN
     },
+    SLICED,
+    Row {
+        name: "a write of 256 transfers, in one poll",
+        more: &[
+            &[
+                0x8000013C, 2, 0, 2, 0x0607AF, 1, 11, 0, 0, 0, 0, 1, 1000, 0, 8, 253,
+            ],
+            &DATA_254,
+        ],
+        took: &[
+            0x80000028, 1, 1, 0, 0, 0, 0, 0, 1, 9011, 262144, 0x80000020, 2, 1, 0, 0, 0, 0, 0, 253,
+        ],
+        waits: Some([2, 0]),
+        ..SLICED
+    },
+    Row {
+        name: "a write of 4,003 transfers: 15 full slices, and 163",
+        more: &[
+            &[
+                0x80000FDC, 2, 0, 2, 0x0607AF, 1, 11, 0, 0, 0, 0, 1, 1000, 0, 8, 4000,
+            ],
+            &[0; 1000],
+        ],
+        took: &[
+            0x80000028, 1, 1, 0, 0, 0, 0, 0, 1, 9011, 262144, 0x80000020, 2, 1, 0, 0, 0, 0, 0, 4000,
+        ],
+        waits: Some([17, 1]),
+        ..SLICED
+    },
+    Row {
+        name: "a write of one poll behind one of two",
+        more: &[
+            &WRITE_254,
+            &DATA_254,
+            &[
+                0x80000040, 2, 0, 2, 0x0607AF, 1, 11, 0, 0, 0, 0, 1, 1000, 0, 8, 1, 0,
+            ],
+        ],
+        took: &[
+            0x80000028, 1, 1, 0, 0, 0, 0, 0, 1, 9011, 262144, 0x80000020, 2, 1, 0, 0, 0, 0, 0, 254,
+            0x80000020, 2, 1, 0, 0, 0, 0, 0, 1,
+        ],
+        waits: Some([4, 1]),
+        ..SLICED
+    },
+    Row {
+        name: "two writes of two polls each",
+        more: &[&WRITE_254, &DATA_254, &WRITE_254, &DATA_254],
+        took: &[
+            0x80000028, 1, 1, 0, 0, 0, 0, 0, 1, 9011, 262144, 0x80000020, 2, 1, 0, 0, 0, 0, 0, 254,
+            0x80000020, 2, 1, 0, 0, 0, 0, 0, 254,
+        ],
+        waits: Some([5, 2]),
+        ..SLICED
+    },
+    Row {
+        name: "a write that is held in its second slice",
+        holds: &[257],
+        waits: Some([4, 2]),
+        ..SLICED
+    },
+    // create_link of `gpib0,5` twice, device_lock of the one link, and of the other, which waits 10 ms for the lock, in vain: each poll
+    // but the last pauses
+    Row {
+        name: "a wait for a lock",
+        more: &[&[
+            0x80000040, 2, 0, 2, 0x0607AF, 1, 10, 0, 0, 0, 0, 42, 0, 0, 7, 0x67706962, 0x302C3500,
+            0x80000034, 3, 0, 2, 0x0607AF, 1, 18, 0, 0, 0, 0, 1, 0, 0, 0x80000034, 4, 0, 2,
+            0x0607AF, 1, 18, 0, 0, 0, 0, 2, 1, 10,
+        ]],
+        piece: 4096,
+        moments: &[1, 2, 3, 4, 5, 6, 7, 8, 9, 10, 11, 12, 13, 14],
+        took: &[
+            0x80000028, 1, 1, 0, 0, 0, 0, 0, 1, 9011, 262144, 0x80000028, 2, 1, 0, 0, 0, 0, 0, 2,
+            9011, 262144, 0x8000001C, 3, 1, 0, 0, 0, 0, 0, 0x8000001C, 4, 1, 0, 0, 0, 0, 11,
+        ],
+        waits: Some([3 + 11, 10]),
+        ..PLAIN
+    },
 ];
 
-/// A link that gives these words and bytes, so many bytes a receive, and of which these calls fail.
-fn link_of(
-    alloc: Global,
-    gives: &[u32],
-    rest: &[u8],
-    piece: usize,
-    fails: &[u64],
-) -> Result<MemLink, AllocError> {
-    let fails = fails.to_vec(alloc)?;
-    let gives = words(alloc, gives, rest)?;
-    Ok(MemLink::new(gives, piece.max(1), Vec::new(alloc), fails))
+/// A clock over memory, and how often it was asked.
+#[derive(Drop)]
+struct Asked {
+    clock: MemClock,
+    asks: u64,
 }
 
-/// What came of a link: how it ended, how many links a count counts before and behind it, whether it took these words, and
-/// whether its dial was told these calls.
-type Came = (Linked, [u64; 2], bool, bool);
+impl Clock for Asked {
+    ghost told = { λ c. c.clock.told };
 
-fn seen(done: LinkDone<MemLink>, dial: &MemDial, took: &[u32], rang: &[Rang]) -> Came {
-    let how = *done.how();
-    let took = are_words(done.link().bytes(), took);
+    fn now(&mut self) -> u64 {
+        self.asks = self.asks.saturating_add(1);
+        self.clock.now()
+    }
+}
+
+/// Counts its pauses.
+#[derive(Drop)]
+pub(crate) struct Pauses {
+    pub(crate) count: u64,
+}
+
+impl Pause for Pauses {
+    fn pause(&mut self) {
+        self.count = self.count.saturating_add(1);
+    }
+}
+
+/// What a session has beside its link.
+#[derive(Drop)]
+struct Outside {
+    clock: Asked,
+    pauses: Pauses,
+    dial: MemDial,
+    room: Room,
+}
+
+/// The same of a row.
+fn outside_of(alloc: Global, row: &Row) -> Option<Outside> {
+    let room = Room::new(alloc).ok()?;
+    let moments = row.moments.to_vec(alloc).ok()?;
+    let fails = row.dial_fails.to_vec(alloc).ok()?;
+    Some(Outside {
+        clock: Asked {
+            clock: MemClock::new(moments),
+            asks: 0,
+        },
+        pauses: Pauses { count: 0 },
+        dial: MemDial::new(Vec::new(alloc), fails),
+        room,
+    })
+}
+
+/// The link of a row.
+fn link_of(alloc: Global, row: &Row) -> Result<MemLink, AllocError> {
+    let mut gives = words(alloc, row.gives, row.rest)?;
+    for piece in row.more {
+        add_words(&mut gives, piece)?;
+    }
+    let fails = row.fails.to_vec(alloc)?;
+    Ok(MemLink::new(gives, row.piece.max(1), Vec::new(alloc), fails))
+}
+
+/// Serves the link of a row by a gateway of its own.
+fn serve<R: Wait>(
+    rt: &R,
+    alloc: Global,
+    row: &Row,
+    outside: &mut Outside,
+) -> Option<LinkDone<MemLink>> {
+    let link = link_of(alloc, row).ok()?;
+    let (gate, pass) = gateway(alloc, row.holds)?;
+    let Outside {
+        clock,
+        pauses,
+        dial,
+        room,
+    } = outside;
+    let (_pass, done) = core_link(rt, alloc, &gate, pass, link, clock, pauses, dial, room);
+    Some(done)
+}
+
+/// Whether a link was served as its row says, and a count counts one link more.
+fn is_so(done: LinkDone<MemLink>, outside: &Outside, row: &Row) -> bool {
+    let is_told = *done.how() == row.how
+        && are_words(done.link().bytes(), row.took)
+        && outside.dial.calls() == Some(row.rang);
+    let is_waited = match row.waits {
+        Some(waits) => waits == [outside.clock.asks, outside.pauses.count],
+        None => true,
+    };
     let mut tally = Tally::new();
     let before = tally.number();
     tally.add(done);
-    let counted = [before, tally.number()];
-    (how, counted, took, dial.calls() == Some(rang))
+    is_told && is_waited && (before, tally.number()) == (0, 1)
 }
 
-/// Serves the link of a row.
-fn serve_row<R: Wait>(rt: &R, alloc: Global, row: &Row) -> Option<Came> {
-    let moments = row.moments.to_vec(alloc).ok()?;
-    let mut outside = make_outside(alloc, row.dial_fails)?;
-    let link = link_of(alloc, row.gives, row.rest, row.piece, row.fails).ok()?;
-    let mut clock = MemClock::new(moments);
-    let done = serve(rt, alloc, row.holds, link, &mut clock, &mut outside)?;
-    Some(seen(done, &outside.dial, row.took, row.rang))
+/// The same of a link that is served now, where there is memory for it.
+fn goes_so<R: Wait>(rt: &R, alloc: Global, row: &Row) -> Option<bool> {
+    let mut outside = outside_of(alloc, row)?;
+    let done = serve(rt, alloc, row, &mut outside)?;
+    Some(is_so(done, &outside, row))
 }
 
 #[test]
 fn links_are_served(rt: HostRuntime) {
     for row in &ROWS {
-        let came = serve_row(&rt, rt.alloc(), row);
-        assert!(rt; came == Some((row.how, [0, 1], true, true)), "{}", row.name);
+        assert!(rt; goes_so(&rt, rt.alloc(), row) == Some(true), "{}", row.name);
     }
-}
-
-/// Serves an abort link by a gateway of its own.
-fn serve_abort<R: Wait>(rt: &R, alloc: Global, link: &mut MemLink) -> Option<Linked> {
-    let mut room = Room::new(alloc).ok()?;
-    let (gate, pass) = gateway(alloc, &[])?;
-    let (_pass, how) = abort_link(rt, alloc, &gate, pass, link, &mut room);
-    Some(how)
-}
-
-// a device_abort of link 9, which isn't there
-#[test]
-fn aborts_a_link_that_is_not_there(rt: HostRuntime) -> Result<(), Fail> {
-    let alloc = rt.alloc();
-    let gives = [0x8000002C, 1, 0, 2, 0x0607B0, 1, 1, 0, 0, 0, 0, 9];
-    let took = [0x8000001C, 1, 1, 0, 0, 0, 0, 4];
-    let mut link = link_of(alloc, &gives, &[], 4096, &[])?;
-    let how = serve_abort(&rt, alloc, &mut link);
-    let is_told = are_words(link.bytes(), &took);
-    assert!(rt; how == Some(Linked::Ended(End::Closed)) && is_told);
-    Ok(())
 }
