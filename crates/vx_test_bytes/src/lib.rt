@@ -3,13 +3,7 @@
 #![tactic(auto)]
 
 #[cfg(test)]
-mod calls_codes_tests;
-#[cfg(test)]
-mod calls_targets_tests;
-#[cfg(test)]
 mod codec_tests;
-#[cfg(test)]
-mod door_tests;
 #[cfg(test)]
 mod io_tests;
 #[cfg(test)]
@@ -28,14 +22,6 @@ mod packet_box_tools;
 mod record_tests;
 #[cfg(test)]
 mod rpc_tests;
-#[cfg(test)]
-mod socket_packets_tests;
-#[cfg(test)]
-mod socket_tests;
-#[cfg(test)]
-mod text_lines_tests;
-#[cfg(test)]
-mod text_tests;
 #[cfg(test)]
 mod word_tools;
 #[cfg(test)]

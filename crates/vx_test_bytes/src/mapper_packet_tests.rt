@@ -123,22 +123,3 @@ fn packets_are_answered_in_order(rt: HostRuntime) -> Result<(), Fail> {
     }
     Ok(())
 }
-
-/// Whether of a null call with 2,000 zeros behind it 1,024 bytes are read, and it is given this answer alone.
-fn is_cut(alloc: Global, answer: &[u32]) -> Result<bool, AllocError> {
-    let mut long = [0; 510];
-    long[..10].copy_from_slice(NULL);
-    let packets = all_spelled(alloc, &[&long])?;
-    let mut packets = MemPackets::new(alloc, packets, Vec::new(alloc));
-    let end = map_packets(&Ports::new(), &mut packets, 1);
-    let moved = [(false, &long[..256]), (true, answer)];
-    Ok(end == PacketEnd::Served && packets.moved_so(alloc, &moved)?)
-}
-
-// A packet above 1,024 bytes is answered as its front.
-#[test]
-fn a_long_packet_is_cut(rt: HostRuntime) -> Result<(), Fail> {
-    let is_cut = is_cut(rt.alloc(), &[7, 1, 0, 0, 0, 4])?;
-    assert!(rt; is_cut);
-    Ok(())
-}

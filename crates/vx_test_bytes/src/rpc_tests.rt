@@ -129,46 +129,6 @@ fn sorts_messages(rt: HostRuntime) -> Result<(), Fail> {
     Ok(())
 }
 
-// A byte less than three words.
-#[test]
-fn junk_of_11_bytes(rt: HostRuntime) {
-    assert!(rt; sort_call(&[0; 11], Role::Core) == Sorted::Junk);
-}
-
-static CORE: [(u32, Proc); 13] = [
-    (11, Proc::Write),
-    (12, Proc::Read),
-    (13, Proc::ReadStb),
-    (14, Proc::Trigger),
-    (15, Proc::Clear),
-    (16, Proc::Remote),
-    (17, Proc::Local),
-    (18, Proc::Lock),
-    (19, Proc::Unlock),
-    (20, Proc::EnableSrq),
-    (22, Proc::Docmd),
-    (23, Proc::DestroyLink),
-    (25, Proc::CreateIntr),
-];
-
-/// Whether a call of this number is one of a procedure.
-fn is_number_of(number: u32, proc: Proc) -> bool {
-    let mut room = [0xEE; 40];
-    let call = Sorted::Call {
-        xid: 9,
-        proc,
-        args: &[],
-    };
-    put_call(9, 0x0607AF, 1, number, &mut room) == Ok(40) && sort_call(&room, Role::Core) == call
-}
-
-#[test]
-fn numbers_of_the_core_procedures(rt: HostRuntime) {
-    for (number, proc) in &CORE {
-        assert!(rt; is_number_of(*number, *proc), "the number {number}");
-    }
-}
-
 /// A header that is written.
 #[derive(Clone, Copy)]
 enum Header {

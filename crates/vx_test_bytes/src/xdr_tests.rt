@@ -2,6 +2,17 @@
 
 use vx_xdr::*;
 
+/// A value, with the most bytes that a text is read with.
+#[derive(Clone, Copy)]
+enum Value {
+    Word(u32),
+    Signed(i32),
+    Bool(bool),
+    Text(u32, &'static [u8]),
+}
+
+use Value::{Bool, Signed, Text, Word};
+
 // The file that RFC 4506 spells out in its section 7.
 const FILE: [u8; 48] = [
     0, 0, 0, 9, b's', b'i', b'l', b'l', b'y', b'p', b'r', b'o', b'g', 0, 0, 0, 0, 0, 0, 2, 0, 0, 0,
@@ -9,71 +20,80 @@ const FILE: [u8; 48] = [
     b'i', b't', b')', 0, 0,
 ];
 
-fn put_file(out: &mut [u8]) -> Result<usize, Full> {
-    let mut w = Writer::new();
-    w.opaque(out, b"sillyprog")?;
-    w.u32(out, 2)?;
-    w.opaque(out, b"lisp")?;
-    w.opaque(out, b"john")?;
-    w.opaque(out, b"(quit)")?;
-    Ok(w.len())
-}
-
-/// What stands in the file before its data: a name, the kind of the file, and two texts.
-type Head<'a> = (&'a [u8], u32, [&'a [u8]; 2]);
-
-fn read_head<'a>(r: &mut Reader<'a>) -> Result<Head<'a>, XdrErr> {
-    Ok((r.opaque(255)?, r.u32()?, [r.opaque(255)?, r.opaque(5)?]))
-}
-
-/// A read of the data that takes too few bytes, one that takes enough, and whether that was all.
-fn read_data<'a>(r: &mut Reader<'a>) -> ([Result<&'a [u8], XdrErr>; 2], bool) {
-    ([r.opaque(5), r.opaque(6)], r.at_end())
-}
-
-#[test]
-fn reads_the_file_of_the_standard(rt: HostRuntime) {
-    let mut r = Reader::new(&FILE);
-    let (head, data) = (read_head(&mut r), read_data(&mut r));
-    let wanted: Head<'_> = (b"sillyprog", 2, [b"lisp", b"john"]);
-    let quit = Ok(b"(quit)".as_slice());
-    assert!(rt; head == Ok(wanted), "the head");
-    assert!(rt; data == ([Err(XdrErr::Long), quit], true), "the data");
-}
-
-#[test]
-fn writes_the_file_of_the_standard(rt: HostRuntime) {
-    let mut out = [0xff; 48];
-    assert!(rt; put_file(&mut out) == Ok(48) && out == FILE);
-    assert!(rt; put_file(&mut [0xff; 47]) == Err(Full));
-}
-
-static SIGNED: [(i32, [u8; 4]); 3] = [
-    (-1, [0xff, 0xff, 0xff, 0xff]),
-    (i32::MIN, [0x80, 0, 0, 0]),
-    (262_144, [0, 4, 0, 0]),
+// Its name, the kind of the file, two texts, and its data.
+static FILE_VALUES: [Value; 5] = [
+    Text(255, b"sillyprog"),
+    Word(2),
+    Text(255, b"lisp"),
+    Text(5, b"john"),
+    Text(6, b"(quit)"),
 ];
 
-/// Whether a number is written as these bytes, and read from them.
-fn is_spelled(number: i32, bytes: [u8; 4]) -> bool {
-    let mut out = [7; 4];
-    Writer::new().i32(&mut out, number) == Ok(())
-        && out == bytes
-        && Reader::new(&bytes).i32() == Ok(number)
-}
+static NUMBERS: [Value; 4] = [Signed(-1), Signed(i32::MIN), Signed(262_144), Bool(true)];
 
-#[test]
-fn signed_numbers(rt: HostRuntime) {
-    for (number, bytes) in &SIGNED {
-        assert!(rt; is_spelled(*number, *bytes), "{number}");
+const SPELLED: &[u8] = b"\xff\xff\xff\xff\x80\0\0\0\0\x04\0\0\0\0\0\x01";
+
+/// Puts a value, where the writer's place is within the room.
+fn put(w: &mut Writer, out: &mut [u8], value: Value) -> Result<(), Full> {
+    if w.len() > out.len() {
+        return Err(Full);
+    }
+    match value {
+        Word(number) => w.u32(out, number),
+        Signed(number) => w.i32(out, number),
+        Bool(is) => w.bool(out, is),
+        Text(_, bytes) if bytes.len() < 1 << 32 => w.opaque(out, bytes),
+        Text(..) => Err(Full),
     }
 }
 
+/// Puts the values, one behind the other: how many bytes they have.
+fn put_all(values: &[Value], out: &mut [u8]) -> Result<usize, Full> {
+    let mut w = Writer::new();
+    for value in values {
+        put(&mut w, out, *value)?;
+    }
+    Ok(w.len())
+}
+
+/// Whether the value is read.
+fn is_read(r: &mut Reader<'_>, value: Value) -> bool {
+    match value {
+        Word(number) => r.u32() == Ok(number),
+        Signed(number) => r.i32() == Ok(number),
+        Bool(is) => r.bool() == Ok(is),
+        Text(most, bytes) => r.opaque(most) == Ok(bytes),
+    }
+}
+
+/// Whether these bytes are read as the values, and no more.
+fn are_read(bytes: &[u8], values: &[Value]) -> bool {
+    let mut r = Reader::new(bytes);
+    for value in values {
+        if !is_read(&mut r, *value) {
+            return false;
+        }
+    }
+    r.at_end()
+}
+
+/// Whether the values are written as these bytes, and not into a byte less.
+fn are_written(values: &[Value], bytes: &[u8]) -> bool {
+    let mut out = [7; 48];
+    let len = bytes.len().min(48);
+    let written = put_all(values, &mut out) == Ok(len) && &out[..len] == bytes;
+    written && put_all(values, &mut out[..len.saturating_sub(1)]) == Err(Full)
+}
+
 #[test]
-fn bools(rt: HostRuntime) {
-    let mut out = [7; 5];
-    assert!(rt; Writer::new().bool(&mut out, true) == Ok(()) && out == [0, 0, 0, 1, 7]);
-    assert!(rt; Reader::new(&out).bool() == Ok(true));
+fn values_both_ways(rt: HostRuntime) {
+    let file = (
+        are_written(&FILE_VALUES, &FILE),
+        are_read(&FILE, &FILE_VALUES),
+    );
+    let numbers = (are_written(&NUMBERS, SPELLED), are_read(SPELLED, &NUMBERS));
+    assert!(rt; file == (true, true), "the file of the standard");
+    assert!(rt; numbers == (true, true), "numbers");
 }
 
 const NO_BOOL: &[u8] = b"\0\0\0\x02";
