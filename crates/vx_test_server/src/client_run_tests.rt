@@ -1,13 +1,8 @@
 //! Calls of a user over memory. Records are composed by hand from their words; the record's mark stands first.
 
-ghost use Rattle.std.specs.Prelude.{None};
-
-use crate::client_tests::{behind, words};
-use crate::client_tools::run_so;
+use crate::client_tools::{line_words, run_so};
+use crate::word_tools::{behind, link_of, reach_of};
 use std::alloc::{AllocError, Global};
-use std::sync::atomic::{AtomicU64, Ordering};
-use vx_client::{Client, call_over, call_run, is_call};
-use vx_io_traits::{Link, ReadOut, Sink, WriteOut};
 use vx_memory::{MemLink, MemReach, MemSink};
 
 /// A create_link that made link 7, of 65,536 bytes a write, as the reply to the first call.
@@ -52,7 +47,7 @@ const STB: Row = Row {
     dials: 1,
 };
 
-static ROWS: [Row; 26] = [
+static ROWS: [Row; 27] = [
     // What ends before a link is made: the end; a server that isn't reached; the number of another call; a link that takes
     // no writes; error 21; GarbageArgs.
     Row { front: &[], ..STB },
@@ -238,6 +233,22 @@ static ROWS: [Row; 26] = [
         text: "",
         ..STB
     },
+    // The create_link, the command and the destroy_link are sent before anything is printed.
+    Row {
+        line: "h 9010 gpib0,5 trigger",
+        gives: &[0x8000001C, 2, 1, 0, 0, 0, 0, 0],
+        sink_fails: &[1],
+        status: 6,
+        text: "",
+        sent: Some(&[
+            &CREATE,
+            &[
+                0x80000038, 2, 0, 2, 0x0607AF, 1, 14, 0, 0, 0, 0, 7, 0, 0, 10000,
+            ],
+            &[0x8000002C, 3, 0, 2, 0x0607AF, 1, 23, 0, 0, 0, 0, 7],
+        ]),
+        ..STB
+    },
     Row {
         line: "h 9011 gpib0,5 stb",
         sink_fails: &[1],
@@ -284,24 +295,6 @@ static OTHER: Row = Row {
     ..STB
 };
 
-/// The words of a line, which stand between spaces.
-pub(crate) fn line_words(alloc: Global, line: &str) -> Result<Vec<String>, AllocError> {
-    let mut list = Vec::new(alloc);
-    for word in line.split(' ') {
-        list.push(String::from_str(alloc, word)?)?;
-    }
-    Ok(list)
-}
-
-/// A link that gives what the server of a row does, seven bytes a receive.
-fn link_of(alloc: Global, row: &Row) -> Result<MemLink, AllocError> {
-    let mut bytes = words(alloc, row.front)?;
-    let more = words(alloc, row.gives)?;
-    let fails = row.link_fails.to_vec(alloc)?;
-    bytes.extend_from_slice(more.as_slice())?;
-    Ok(MemLink::new(bytes, 7, Vec::new(alloc), fails))
-}
-
 /// Whether bytes are these records, one behind the other.
 fn are_records(bytes: &[u8], records: &[&[u32]]) -> bool {
     let mut rest = Some(bytes);
@@ -314,13 +307,6 @@ fn are_records(bytes: &[u8], records: &[&[u32]]) -> bool {
 /// Whether the link of a reach took these records, where they are looked at.
 fn took(reach: &MemReach<MemLink>, records: Option<&[&[u32]]>) -> bool {
     records.is_none_or(|records| are_records(reach.link().bytes(), records))
-}
-
-/// A host that answers at port 9010, over the link of a row.
-fn reach_of(alloc: Global, row: &Row) -> Result<MemReach<MemLink>, AllocError> {
-    let host = String::from_str(alloc, "h")?;
-    let link = link_of(alloc, row)?;
-    Ok(MemReach::new(link, host, 9010))
 }
 
 /// An output of which the writes fail that do in a row.
@@ -341,11 +327,12 @@ fn comes_so(
     is_so && reach.tried() == row.dials && took(&reach, row.sent)
 }
 
-/// The same for the words of a line.
+/// The same for the words of a line, over a link that gives what the server of a row does, seven bytes a receive.
 fn line_comes_so(alloc: Global, line: &str, row: &Row) -> Result<bool, AllocError> {
     let list = line_words(alloc, line)?;
     let mut sink = sink_of(alloc, row)?;
-    let reach = reach_of(alloc, row)?;
+    let link = link_of(alloc, row.front, row.gives, 7, row.link_fails)?;
+    let reach = reach_of(alloc, "h", link)?;
     Ok(comes_so(alloc, list.as_slice(), reach, &mut sink, row))
 }
 
@@ -390,97 +377,4 @@ fn refuses_a_long_device(rt: HostRuntime) {
     let longest = long_comes_so(rt.alloc(), 255, &UNMADE);
     let longer = long_comes_so(rt.alloc(), 256, &OTHER);
     assert!(rt; longest == Ok(true) && longer == Ok(true));
-}
-
-/// A server that makes the link and is done with a call.
-static DONE: Row = Row {
-    gives: &[0x8000001C, 2, 1, 0, 0, 0, 0, 0],
-    ..STB
-};
-
-/// A link that counts its sends where others see it.
-#[derive(Drop)]
-struct Counted<'a> {
-    link: MemLink,
-    sends: &'a AtomicU64,
-}
-
-impl<'a> Link for Counted<'a> {
-    ghost stands = { λ _ taken given. ⊥ };
-
-    ghost left = { λ _. None };
-
-    ghost receive_faults = { λ c. c.link.receive_faults };
-
-    ghost send_faults = { λ c. c.link.send_faults };
-
-    fn receive(&mut self, into: &mut [u8]) -> ReadOut {
-        self.link.receive(into)
-    }
-
-    fn send(&mut self, from: &[u8]) -> WriteOut {
-        self.sends.fetch_add(1, Ordering::SeqCst);
-        self.link.send(from)
-    }
-}
-
-/// An output that keeps how many sends there were at its last write.
-#[derive(Drop)]
-struct Noting<'a> {
-    sink: MemSink,
-    sends: &'a AtomicU64,
-    seen: u64,
-}
-
-impl<'a> Sink for Noting<'a> {
-    ghost taken = { λ _. None };
-
-    ghost faults = { λ n. n.sink.faults };
-
-    fn write(&mut self, from: &[u8]) -> WriteOut {
-        self.seen = self.sends.load(Ordering::SeqCst);
-        self.sink.write(from)
-    }
-}
-
-/// Whether a call of these words ends with status 0 over a client of this link.
-fn ends_well(alloc: Global, list: &[String], link: Counted, sink: &mut Noting) -> bool {
-    match Client::new(alloc, link) {
-        Ok(mut client) => is_call(list) && call_over(alloc, list, &mut client, sink) == 0,
-        Err(_) => false,
-    }
-}
-
-/// Whether a call of these words prints that it is done, and how many sends there were then and in all.
-fn printed(alloc: Global, list: &[String], link: MemLink) -> (bool, [u64; 2]) {
-    let sends = AtomicU64::new(0);
-    let mut sink = Noting {
-        sink: MemSink::new(Vec::new(alloc), Vec::new(alloc)),
-        sends: &sends,
-        seen: 0,
-    };
-    let link = Counted {
-        link,
-        sends: &sends,
-    };
-    let is_done = ends_well(alloc, list, link, &mut sink);
-    let is_told = sink.sink.bytes() == b"done\n".as_slice();
-    (
-        is_done && is_told,
-        [sink.seen, sends.load(Ordering::SeqCst)],
-    )
-}
-
-/// The same for the words of a line.
-fn line_printed(alloc: Global, line: &str, row: &Row) -> Result<(bool, [u64; 2]), AllocError> {
-    let list = line_words(alloc, line)?;
-    let link = link_of(alloc, row)?;
-    Ok(printed(alloc, list.as_slice(), link))
-}
-
-// The create_link, the trigger and the destroy_link were sent before anything was printed, and nothing after that.
-#[test]
-fn prints_behind_its_calls(rt: HostRuntime) {
-    let came = line_printed(rt.alloc(), "h 9010 gpib0,5 trigger", &DONE);
-    assert!(rt; came == Ok((true, [3, 3])));
 }

@@ -1,28 +1,11 @@
 //! Calls of a client over memory. Records are composed by hand from their words; the record's mark stands first.
 
-use crate::client_tools::{Answer, Ask, Got, answer};
+use crate::client_tools::{Answer, Ask, Got, are_answered};
+use crate::word_tools::{behind, link_of, push_words, words};
 use std::alloc::{AllocError, Global};
 use vx_client::{CallOpts, Client, ClientErr, LinkMade, ReadEnd};
 use vx_memory::MemLink;
 use vx_rpc::RpcRefusal;
-
-/// Numbers as words of a record, its mark in front.
-pub(crate) fn words(alloc: Global, numbers: &[u32]) -> Result<Vec<u8>, AllocError> {
-    let mut bytes = Vec::new(alloc);
-    for number in numbers {
-        bytes.extend_from_slice(&number.to_be_bytes())?;
-    }
-    Ok(bytes)
-}
-
-/// What is behind these words at the front of bytes.
-pub(crate) fn behind<'a>(bytes: &'a [u8], numbers: &[u32]) -> Option<&'a [u8]> {
-    let mut rest = bytes;
-    for number in numbers {
-        rest = rest.strip_prefix(number.to_be_bytes().as_slice())?;
-    }
-    Some(rest)
-}
 
 /// Whether bytes are these words.
 fn are_words(bytes: &[u8], numbers: &[u32]) -> bool {
@@ -167,7 +150,7 @@ static CALLS: [Row; 16] = [
     Row {
         gives: &[0x80000024, 1, 1, 0, 0, 0, 0, 0, 2, 0x00010000],
         piece: 1,
-        first: (Ask::Docmd(LID), Ok(Got::Bytes(2))),
+        first: (Ask::Docmd(LID, 0x020001, &[0, 1]), Ok(Got::Bytes(2))),
         room: &[0, 1, b'9', b'9'],
         sent: Some(&[
             0x8000004C, 1, 0, 2, 0x0607AF, 1, 22, 0, 0, 0, 0, 7, 1, 10000, 500, 0x020001, 1, 1, 2,
@@ -369,21 +352,6 @@ const NARROW: LinkMade = LinkMade {
     max: 1,
 };
 
-/// What a call answers: a command of two bytes goes into four, a write over a link that takes a byte a write, and a read into at
-/// most eight bytes.
-fn answer_moving(client: &mut Client<MemLink>, ask: Ask, room: &mut [u8; 8]) -> Answer {
-    match ask {
-        Ask::Docmd(lid) => client
-            .docmd(lid, &OPTS, 0x020001, &[0, 1], &mut room[..4])
-            .map(Got::Bytes),
-        Ask::Read { most, term } => client
-            .read(LID, &OPTS, term, &mut room[..most.min(8)])
-            .map(Got::End),
-        Ask::Write(bytes) => client.write(&NARROW, &OPTS, bytes).map(|_| Got::Done),
-        _ => answer(client, LID, &OPTS, ask),
-    }
-}
-
 /// Whether the last record of a client is these words, where it is looked at.
 fn is_last(client: &Client<MemLink>, numbers: Option<&[u32]>) -> bool {
     numbers.is_none_or(|numbers| are_words(client.last(), numbers))
@@ -392,13 +360,10 @@ fn is_last(client: &Client<MemLink>, numbers: Option<&[u32]>) -> bool {
 /// Whether the calls of a row are answered as it says.
 fn is_answered(client: &mut Client<MemLink>, row: &Row) -> bool {
     let mut room = [b'9'; 8];
-    let (ask, first) = row.first;
-    let mut same = answer_moving(client, ask, &mut room) == first;
-    same &= is_last(client, row.last);
-    for (ask, want) in row.more {
-        same &= answer_moving(client, *ask, &mut room) == *want;
-    }
-    same && room.starts_with(row.room)
+    let first = are_answered(client, &NARROW, &OPTS, &[row.first], &mut room);
+    let last = is_last(client, row.last);
+    let more = are_answered(client, &NARROW, &OPTS, row.more, &mut room);
+    first && last && more && room.starts_with(row.room)
 }
 
 /// Whether the link of a client took these words, where they are looked at.
@@ -407,22 +372,10 @@ fn took(client: Client<MemLink>, numbers: Option<&[u32]>) -> bool {
     numbers.is_none_or(|numbers| are_words(link.bytes(), numbers))
 }
 
-/// A client over a link that gives these bytes, so many a receive, and of which these calls fail.
-fn client_of(
-    alloc: Global,
-    gives: Vec<u8>,
-    piece: usize,
-    fails: Vec<u64>,
-) -> Option<Client<MemLink>> {
-    let link = MemLink::new(gives, piece.max(1), Vec::new(alloc), fails);
-    Client::new(alloc, link).ok()
-}
-
 /// Whether a row holds, where there is memory for its client.
 fn holds(alloc: Global, row: &Row) -> Option<bool> {
-    let gives = words(alloc, row.gives).ok()?;
-    let fails = row.fails.to_vec(alloc).ok()?;
-    let mut client = client_of(alloc, gives, row.piece, fails)?;
+    let link = link_of(alloc, row.gives, &[], row.piece, row.fails).ok()?;
+    let mut client = Client::new(alloc, link).ok()?;
     let answered = is_answered(&mut client, row);
     Some(took(client, row.sent) && answered)
 }
@@ -455,21 +408,21 @@ fn writes(mut client: Client<MemLink>, text: &[u8], sent: &[u8]) -> bool {
 
 /// The records of two pieces of a text, the words in front of each.
 fn two_pieces(alloc: Global, text: &[u8]) -> Result<Vec<u8>, AllocError> {
+    let (first, second) = text.split_at(text.len().min(65536));
     let mut sent = words(
         alloc,
         &[
             0x8001003C, 1, 0, 2, 0x0607AF, 1, 11, 0, 0, 0, 0, 7, 10000, 0, 1, 65536,
         ],
+        &[],
     )?;
-    let (first, second) = text.split_at(text.len().min(65536));
     sent.extend_from_slice(first)?;
-    let front = words(
-        alloc,
+    push_words(
+        &mut sent,
         &[
             0x800086DC, 2, 0, 2, 0x0607AF, 1, 11, 0, 0, 0, 0, 7, 10000, 0, 9, 34464,
         ],
     )?;
-    sent.extend_from_slice(front.as_slice())?;
     sent.extend_from_slice(second)?;
     Ok(sent)
 }
@@ -479,18 +432,13 @@ const WRITTEN: [u32; 18] = [
     0x80000020, 1, 1, 0, 0, 0, 0, 0, 65536, 0x80000020, 2, 1, 0, 0, 0, 0, 0, 34464,
 ];
 
-/// Whether a write of this text goes so over a link with those replies.
-fn writes_over(alloc: Global, text: &[u8], sent: &[u8]) -> Option<bool> {
-    let gives = words(alloc, &WRITTEN).ok()?;
-    let client = client_of(alloc, gives, 1000, Vec::new(alloc))?;
-    Some(writes(client, text, sent))
-}
-
 /// Whether 100,000 bytes go in two pieces, where there is memory for them.
 fn writes_long(alloc: Global) -> Option<bool> {
     let text = vec![in alloc; 0x61u8; 100_000].ok()?;
     let sent = two_pieces(alloc, text.as_slice()).ok()?;
-    writes_over(alloc, text.as_slice(), sent.as_slice())
+    let link = link_of(alloc, &WRITTEN, &[], 1000, &[]).ok()?;
+    let client = Client::new(alloc, link).ok()?;
+    Some(writes(client, text.as_slice(), sent.as_slice()))
 }
 
 // 100,000 bytes in pieces of 65,536: the second piece has 34,464 = 0x86A0, and END alone.

@@ -1,7 +1,7 @@
 //! What the tests of clients share: calls as data, over any link.
 
 use arrayvec::ArrayVec;
-use std::alloc::Global;
+use std::alloc::{AllocError, Global};
 use vx_calls::{DEVICE_MAX, Handle};
 use vx_client::{CallOpts, Client, ClientErr, LinkMade, ReadEnd, call_run};
 use vx_io_traits::{Link, Reach};
@@ -28,8 +28,8 @@ pub(crate) enum Ask {
     /// With a handle of these bytes.
     EnableSrq(&'static [u8]),
     DestroyIntr,
-    /// Over this link.
-    Docmd(u32),
+    /// Over a link of this number a command of the bus, with at most four bytes.
+    Docmd(u32, u32, &'static [u8]),
     Write(&'static [u8]),
     /// Into so many bytes, up to this character.
     Read {
@@ -78,12 +78,13 @@ fn order<L: Link>(
     }
 }
 
-/// What a call over a link of this number answers that moves no bytes.
-pub(crate) fn answer<L: Link>(
+/// What a call over a link answers. What it reads goes into the room.
+fn answer<L: Link>(
     client: &mut Client<L>,
-    lid: u32,
+    made: &LinkMade,
     opts: &CallOpts,
     ask: Ask,
+    room: &mut [u8; 8],
 ) -> Answer {
     match ask {
         Ask::Create {
@@ -93,9 +94,43 @@ pub(crate) fn answer<L: Link>(
         } => client
             .create_link(lock, lock_timeout, &device[..device.len().min(DEVICE_MAX)])
             .map(Got::Link),
-        Ask::ReadStb => client.readstb(lid, opts).map(Got::Status),
-        _ => order(client, lid, opts, ask).map(|_| Got::Done),
+        Ask::ReadStb => client.readstb(made.lid, opts).map(Got::Status),
+        Ask::Docmd(lid, cmd, bytes) => client
+            .docmd(lid, opts, cmd, &bytes[..bytes.len().min(4)], &mut room[..4])
+            .map(Got::Bytes),
+        Ask::Read { most, term } => client
+            .read(made.lid, opts, term, &mut room[..most.min(8)])
+            .map(Got::End),
+        Ask::Write(bytes) if 0 < made.max => client.write(made, opts, bytes).map(|_| Got::Done),
+        _ => order(client, made.lid, opts, ask).map(|_| Got::Done),
     }
+}
+
+/// Whether calls over a link are answered so, one after the other.
+pub(crate) fn are_answered<L: Link>(
+    client: &mut Client<L>,
+    made: &LinkMade,
+    opts: &CallOpts,
+    steps: &[(Ask, Answer)],
+    room: &mut [u8; 8],
+) -> bool {
+    let mut same = true;
+    for (ask, want) in steps {
+        same &= answer(client, made, opts, *ask, room) == *want;
+    }
+    same
+}
+
+/// The words of a line, which stand between spaces; none where it is empty.
+pub(crate) fn line_words(alloc: Global, line: &str) -> Result<Vec<String>, AllocError> {
+    let mut list = Vec::new(alloc);
+    if line.is_empty() {
+        return Ok(list);
+    }
+    for word in line.split(' ') {
+        list.push(String::from_str(alloc, word)?)?;
+    }
+    Ok(list)
 }
 
 /// Runs a command over a reach. Answers the reach, and whether the command ends with this status and prints this text.

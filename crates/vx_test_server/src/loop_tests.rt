@@ -2,11 +2,9 @@
 
 ghost use Rattle.std.specs.Prelude.{◌≡◌, IfSome};
 ghost use Rattle.vx_sim.specs.Means.{first_means};
-ghost use Rattle.vx_core.specs.InterleavedState.{first_interleaved};
-ghost use Rattle.vx_loop.specs.LoopState.{IsUnconnected};
 
-use crate::client_run_tests::line_words;
-use crate::client_tools::{Answer, Ask, Got, answer, run_so};
+use crate::client_tools::{Answer, Ask, Got, are_answered, line_words, run_so};
+use crate::word_tools::reach_of;
 use std::alloc::{AllocError, Global};
 use vx_488::Addr;
 use vx_client::{CallOpts, Client, ClientErr, LinkMade, ReadEnd};
@@ -14,7 +12,7 @@ use vx_core::Core;
 use vx_inst::Instrument;
 use vx_io_traits::{Link, Reach, ReadOut, WriteOut};
 use vx_loop::{LoopLink, through_client};
-use vx_memory::{MemReach, MemSink};
+use vx_memory::MemSink;
 use vx_rack::Echo;
 use vx_sim::SimBus;
 
@@ -31,77 +29,31 @@ const LINK: LinkMade = LinkMade {
     max: 262_144,
 };
 
-/// That instrument is hung on a bus.
-fn hang(alloc: Global, bus: &mut SimBus<Echo>) -> bool
-    ensures { bus.new.means ≡ bus.old.means }
-{
-    match Echo::new(alloc) {
-        Ok(echo) => bus.attach_box(Addr { p: 5, s: None }, echo).is_ok(),
-        Err(_) => false,
-    }
-}
-
 /// A bus with that instrument.
 fn echoing(alloc: Global) -> Option<SimBus<Echo>>
     ensures { IfSome result (λ bus. bus.means ≡ first_means) }
 {
+    let echo = Echo::new(alloc).ok()?;
     let mut bus = SimBus::new(alloc).ok()?;
-    if hang(alloc, &mut bus) {
-        Some(bus)
-    } else {
-        None
+    match bus.attach_box(Addr { p: 5, s: None }, echo) {
+        Ok(()) => Some(bus),
+        Err(_) => None,
     }
 }
 
-/// That bus, or one with nothing on it for a gateway that is late.
-fn bus_of(alloc: Global, is_late: bool) -> Option<SimBus<Echo>>
-    ensures { IfSome result (λ bus. bus.means ≡ first_means) }
-{
-    if is_late {
-        return SimBus::new(alloc).ok();
-    }
-    echoing(alloc)
-}
-
-/// A new gateway is told the last moment, where it is to be late.
-fn tell<I: Instrument>(core: &mut Core<SimBus<I>>, is_late: bool)
-    requires { core.old.interleaved ≡ first_interleaved 9011 }
-    ensures { IsUnconnected core.new.interleaved }
-{
-    if !is_late {
-        return;
-    }
-    core.sample(u64::MAX);
-}
-
-/// A gateway over a bus.
-fn gateway<I: Instrument>(alloc: Global, bus: SimBus<I>, is_late: bool) -> Option<Core<SimBus<I>>>
+/// A link to a gateway over a bus, which was told this moment.
+fn link_over<I: Instrument>(alloc: Global, bus: SimBus<I>, now: u64) -> Option<LoopLink<I>>
     requires { bus.means ≡ first_means }
-    ensures { IfSome result (λ core. IsUnconnected core.interleaved) }
 {
     let mut core = Core::start(alloc, bus, 9011).ok()?;
-    tell(&mut core, is_late);
-    Some(core)
-}
-
-/// A link to a gateway over a bus.
-fn link<I: Instrument>(alloc: Global, bus: SimBus<I>, is_late: bool) -> Option<LoopLink<I>>
-    requires { bus.means ≡ first_means }
-{
-    let core = gateway(alloc, bus, is_late)?;
+    core.sample(now);
     LoopLink::new(alloc, core).ok()
 }
 
-/// A client over that.
-fn client<I: Instrument>(
-    alloc: Global,
-    bus: SimBus<I>,
-    is_late: bool,
-) -> Option<Client<LoopLink<I>>>
-    requires { bus.means ≡ first_means }
-{
-    let link = link(alloc, bus, is_late)?;
-    Client::new(alloc, link).ok()
+/// A link to a gateway over that bus.
+fn link(alloc: Global, now: u64) -> Option<LoopLink<Echo>> {
+    let bus = echoing(alloc)?;
+    link_over(alloc, bus, now)
 }
 
 /// Whether a write of these bytes goes through, in two pieces, and is read back.
@@ -126,19 +78,6 @@ fn goes_through<I: Instrument>(
     is_made && is_written && is_last && is_read && &*into == bytes
 }
 
-/// The same for a client of its own over a bus, where there is memory for both.
-fn text_goes_through<I: Instrument>(
-    alloc: Global,
-    bus: Option<SimBus<I>>,
-    bytes: &[u8],
-    into: &mut [u8],
-) -> Option<bool>
-    requires { IfSome bus (λ bus. bus.means ≡ first_means) }
-{
-    let mut client = client(alloc, bus?, false)?;
-    Some(goes_through(&mut client, bytes, into))
-}
-
 /// 100,000 bytes, the numbers from 0 to 250 over and over.
 fn long_text(alloc: Global) -> Result<Vec<u8>, AllocError> {
     let mut bytes = vec![in alloc; 0u8; 100_000]?;
@@ -148,11 +87,12 @@ fn long_text(alloc: Global) -> Result<Vec<u8>, AllocError> {
     Ok(bytes)
 }
 
-/// Whether that text goes through, where there is memory for it.
+/// Whether that text goes through over a link of its own, where there is memory for it.
 fn long_goes_through(alloc: Global) -> Option<bool> {
     let bytes = long_text(alloc).ok()?;
     let mut into = vec![in alloc; 0u8; 100_000].ok()?;
-    text_goes_through(alloc, echoing(alloc), bytes.as_slice(), into.as_mut_slice())
+    let mut client = Client::new(alloc, link(alloc, 0)?).ok()?;
+    Some(goes_through(&mut client, bytes.as_slice(), into.as_mut_slice()))
 }
 
 #[test]
@@ -164,17 +104,17 @@ const DONE: Answer = Ok(Got::Done);
 
 const MADE: Answer = Ok(Got::Link(LINK));
 
-/// Calls of a client over a gateway, and what stands in the two bytes behind them, which are 0 before.
+/// The moment that a gateway was told, calls of a client over it, and the front of what the bytes go to, which are 0 before.
 struct Row {
-    is_late: bool,
+    now: u64,
     steps: &'static [(Ask, Answer)],
-    room: [u8; 2],
+    room: &'static [u8],
 }
 
 static ROWS: [Row; 5] = [
     // Each call of a link to the device, and writes between them.
     Row {
-        is_late: false,
+        now: 0,
         steps: &[
             (
                 Ask::Create {
@@ -196,11 +136,11 @@ static ROWS: [Row; 5] = [
             (Ask::Destroy, DONE),
             (Ask::Destroy, Err(ClientErr::Device(4))),
         ],
-        room: [0, 0],
+        room: &[0],
     },
     // Those for interrupts. A dial fails: no channel.
     Row {
-        is_late: false,
+        now: 0,
         steps: &[
             (
                 Ask::Create {
@@ -214,11 +154,11 @@ static ROWS: [Row; 5] = [
             (Ask::CreateIntr(9012), Err(ClientErr::Device(6))),
             (Ask::DestroyIntr, Err(ClientErr::Device(6))),
         ],
-        room: [0, 0],
+        room: &[0],
     },
     // A command of the bus is refused on a device, and sends its byte on the interface.
     Row {
-        is_late: false,
+        now: 0,
         steps: &[
             (
                 Ask::Create {
@@ -240,14 +180,14 @@ static ROWS: [Row; 5] = [
                     max: 262_144,
                 })),
             ),
-            (Ask::Docmd(1), Err(ClientErr::Device(8))),
-            (Ask::Docmd(2), Ok(Got::Bytes(1))),
+            (Ask::Docmd(1, 0x020000, &[0x3F]), Err(ClientErr::Device(8))),
+            (Ask::Docmd(2, 0x020000, &[0x3F]), Ok(Got::Bytes(1))),
         ],
-        room: [0x3F, 0],
+        room: &[0x3F, 0],
     },
     // Nobody takes the byte until the timeout has passed.
     Row {
-        is_late: false,
+        now: 0,
         steps: &[
             (
                 Ask::Create {
@@ -259,11 +199,11 @@ static ROWS: [Row; 5] = [
             ),
             (Ask::Write(b"A"), Err(ClientErr::Device(15))),
         ],
-        room: [0, 0],
+        room: &[0],
     },
     // Nobody takes the byte, and no later moment is left to poll at.
     Row {
-        is_late: true,
+        now: u64::MAX,
         steps: &[
             (
                 Ask::Create {
@@ -275,58 +215,29 @@ static ROWS: [Row; 5] = [
             ),
             (Ask::Write(b"A"), Err(ClientErr::ReadFault)),
         ],
-        room: [0, 0],
+        room: &[0],
     },
 ];
 
-/// What a call answers: a command sends the byte 0x3F.
-fn answer_moving<I: Instrument>(
-    client: &mut Client<LoopLink<I>>,
-    ask: Ask,
-    room: &mut [u8; 2],
-) -> Answer {
-    match ask {
-        Ask::Write(bytes) => through_client(client, &LINK, &OPTS, bytes).map(|_| Got::Done),
-        Ask::Docmd(lid) => client
-            .docmd(lid, &OPTS, 0x020000, &[0x3F], room)
-            .map(Got::Bytes),
-        _ => answer(client, LINK.lid, &OPTS, ask),
-    }
+/// Whether the calls of a row are answered as it says, over a link.
+fn holds<L: Link + Drop>(alloc: Global, link: L, row: &Row) -> Option<bool> {
+    let mut client = Client::new(alloc, link).ok()?;
+    let mut room = [0; 8];
+    let same = are_answered(&mut client, &LINK, &OPTS, row.steps, &mut room);
+    Some(same && room.starts_with(row.room))
 }
 
-/// Whether the calls of a row are answered as it says.
-fn is_answered<I: Instrument>(client: &mut Client<LoopLink<I>>, row: &Row) -> bool {
-    let mut room = [0; 2];
-    let mut same = true;
-    for (ask, want) in row.steps {
-        same &= answer_moving(client, *ask, &mut room) == *want;
-    }
-    same && room == row.room
-}
-
-/// Whether a row holds over a bus, where there is memory for that and its client.
-fn holds<I: Instrument>(alloc: Global, bus: Option<SimBus<I>>, row: &Row) -> Option<bool>
-    requires { IfSome bus (λ bus. bus.means ≡ first_means) }
-{
-    let mut client = client(alloc, bus?, row.is_late)?;
-    Some(is_answered(&mut client, row))
+/// The same over a link of its own.
+fn row_holds(alloc: Global, row: &Row) -> Option<bool> {
+    holds(alloc, link(alloc, row.now)?, row)
 }
 
 #[test]
 fn calls_are_answered(rt: HostRuntime) {
     for (place, row) in ROWS.iter().enumerate() {
-        let is_so = holds(rt.alloc(), bus_of(rt.alloc(), row.is_late), row);
+        let is_so = row_holds(rt.alloc(), row);
         assert!(rt; is_so == Some(true), "row {place}");
     }
-}
-
-/// The host `h`, which answers at port 9010 over a link of its own.
-fn reach<I: Instrument>(alloc: Global, bus: SimBus<I>) -> Option<MemReach<LoopLink<I>>>
-    requires { bus.means ≡ first_means }
-{
-    let link = link(alloc, bus, false)?;
-    let host = String::from_str(alloc, "h").ok()?;
-    Some(MemReach::new(link, host, 9010))
 }
 
 /// Whether a command over a reach ends with a status and prints a text.
@@ -341,18 +252,11 @@ fn comes_so<R: Reach + Drop>(
     run_so(alloc, words, reach, &mut sink, status, text).1
 }
 
-/// The same for the words of a line over a link of its own, where there is memory for them.
-fn line_comes_so<I: Instrument>(
-    alloc: Global,
-    bus: Option<SimBus<I>>,
-    line: &str,
-    status: u8,
-    text: &str,
-) -> Option<bool>
-    requires { IfSome bus (λ bus. bus.means ≡ first_means) }
-{
-    let reach = reach(alloc, bus?)?;
+/// The same for the words of a line over the host `h` with a link of its own, where there is memory for them.
+fn line_comes_so(alloc: Global, line: &str, status: u8, text: &str) -> Option<bool> {
     let list = line_words(alloc, line).ok()?;
+    let link = link(alloc, 0)?;
+    let reach = reach_of(alloc, "h", link).ok()?;
     Some(comes_so(alloc, list.as_slice(), reach, status, text))
 }
 
@@ -365,7 +269,7 @@ static LINES: [(&str, u8, &str); 2] = [
 #[test]
 fn a_command_is_done(rt: HostRuntime) {
     for (line, status, text) in &LINES {
-        let is_so = line_comes_so(rt.alloc(), echoing(rt.alloc()), line, *status, text);
+        let is_so = line_comes_so(rt.alloc(), line, *status, text);
         assert!(rt; is_so == Some(true), "{line}");
     }
 }
@@ -438,18 +342,15 @@ fn acts<L: Link + Drop>(link: L, list: &[Act]) -> bool {
     same
 }
 
-/// The same of a link of its own over a bus, where there is memory for both.
-fn link_acts<I: Instrument>(alloc: Global, bus: Option<SimBus<I>>, list: &[Act]) -> Option<bool>
-    requires { IfSome bus (λ bus. bus.means ≡ first_means) }
-{
-    let link = link(alloc, bus?, false)?;
-    Some(acts(link, list))
+/// The same of a link of its own.
+fn link_acts(alloc: Global, list: &[Act]) -> Option<bool> {
+    Some(acts(link(alloc, 0)?, list))
 }
 
 #[test]
 fn records_are_answered(rt: HostRuntime) {
     for (place, list) in ACTS.iter().enumerate() {
-        let is_so = link_acts(rt.alloc(), echoing(rt.alloc()), list);
+        let is_so = link_acts(rt.alloc(), list);
         assert!(rt; is_so == Some(true), "list {place}");
     }
 }

@@ -1,25 +1,18 @@
 //! Servers whose bus is behind another box and whose workers never run: the causes of each status, and what is written. The box's replies
 //! are composed by hand from their words; the mark of a record stands first.
+use crate::box_tests::{REST, box_of};
 use crate::serve_tests::{Idle, PLAIN, SERVED};
-use crate::served_tests::{
-    Comparing, Counts, Ends, Row, Setting, counts_of, is_ended, setting_of, sink_of,
-};
+use crate::served_tests::{Ends, Row, Setting, counts_of, is_ended, setting_of};
 use std::alloc::{AllocError, Global};
-use std::sync::{Arc, Wait};
-use vx_memory::{MemLink, MemReach, MemSink};
+use std::sync::Wait;
+use vx_io_traits::Reach;
 use vx_relay::relay_run;
-
-/// Link 7 of the box, whose writes take 1,024 bytes; and three device_docmd with no error: no data, two bytes, four bytes.
-const AT_REST: &[u32] = &[
-    0x80000028, 1, 1, 0, 0, 0, 0, 0, 7, 9012, 1024, 0x80000020, 2, 1, 0, 0, 0, 0, 0, 0, 0x80000024,
-    3, 1, 0, 0, 0, 0, 0, 2, 0, 0x80000024, 4, 1, 0, 0, 0, 0, 0, 4, 0,
-];
 
 /// A server with these words and this bench, over a box at the host `box` and port 9010 that gives these words; how it ends, and what it
 /// writes.
 #[derive(Clone, Copy)]
 struct Relay {
-    words: &'static [&'static str],
+    words: &'static str,
     bench: &'static str,
     gives: &'static [u32],
     status: u8,
@@ -28,7 +21,7 @@ struct Relay {
 
 /// A server whose words are refused.
 const REFUSED: Relay = Relay {
-    words: &[],
+    words: "",
     bench: "",
     gives: &[],
     status: 1,
@@ -37,9 +30,9 @@ const REFUSED: Relay = Relay {
 
 /// A server that nothing disturbs.
 const UP: Relay = Relay {
-    words: &["box", "9010"],
+    words: "box 9010",
     bench: "",
-    gives: AT_REST,
+    gives: REST,
     status: 0,
     text: "listening 9010 9011\nserved 0\n",
 };
@@ -48,32 +41,32 @@ static RELAYS: [Relay; 17] = [
     // words that name no box
     REFUSED,
     Relay {
-        words: &["box"],
+        words: "box",
         ..REFUSED
     },
     Relay {
-        words: &["box", "0"],
+        words: "box 0",
         ..REFUSED
     },
     Relay {
-        words: &["box", "09010"],
+        words: "box 09010",
         ..REFUSED
     },
     Relay {
-        words: &["box", "65536"],
+        words: "box 65536",
         ..REFUSED
     },
     // words behind a box that are refused, or that ask for a text
     Relay {
-        words: &["box", "9010", "gpib0", "more"],
+        words: "box 9010 gpib0 more",
         ..REFUSED
     },
     Relay {
-        words: &["box", "9010", "--patience", "0"],
+        words: "box 9010 --patience 0",
         ..REFUSED
     },
     Relay {
-        words: &["box", "9010", "--version"],
+        words: "box 9010 --version",
         text: "vxgate 0.1.0\n",
         ..UP
     },
@@ -86,13 +79,13 @@ static RELAYS: [Relay; 17] = [
     },
     // a box that isn't there
     Relay {
-        words: &["bux", "9010"],
+        words: "bux 9010",
         status: 2,
         text: "fault upstream reach\n",
         ..UP
     },
     Relay {
-        words: &["box", "9011"],
+        words: "box 9011",
         status: 2,
         text: "fault upstream reach\n",
         ..UP
@@ -106,7 +99,7 @@ static RELAYS: [Relay; 17] = [
     },
     // one whose interface is locked
     Relay {
-        words: &["box", "9010", "hpib"],
+        words: "box 9010 hpib",
         gives: &[0x80000028, 1, 1, 0, 0, 0, 0, 11, 0, 0, 0],
         status: 2,
         text: "fault upstream link 11\n",
@@ -122,25 +115,15 @@ static RELAYS: [Relay; 17] = [
     // one whose bus is had: without a name, with one, and with options behind either
     UP,
     Relay {
-        words: &["box", "9010", "--core", "1", "--patience=1000"],
+        words: "box 9010 --core 1 --patience=1000",
         text: "listening 1 9011\nserved 0\n",
         ..UP
     },
     Relay {
-        words: &["box", "9010", "hpib", "--limit", "3"],
+        words: "box 9010 hpib --limit 3",
         ..UP
     },
 ];
-
-/// A link to the box, which gives these words.
-fn link_of(alloc: Global, words: &[u32]) -> Result<MemReach<MemLink>, AllocError> {
-    let mut bytes = Vec::new(alloc);
-    for word in words {
-        bytes.extend_from_slice(&word.to_be_bytes())?;
-    }
-    let link = MemLink::new(bytes, 64, Vec::new(alloc), Vec::new(alloc));
-    Ok(MemReach::new(link, String::from_str(alloc, "box")?, 9010))
-}
 
 /// The row of a server that is told of by all that is different from one over a bench.
 fn row_of(relay: &Relay) -> Row {
@@ -156,42 +139,35 @@ fn row_of(relay: &Relay) -> Row {
     }
 }
 
-/// Runs a server, and answers its status and the number of its tally.
-fn run<R: Wait>(
+/// Runs a server with these over a link to its box, and answers its status and the number of its tally.
+fn run<R: Wait, L: Reach + Drop>(
     rt: &R,
     alloc: Global,
-    relay: &Relay,
-    counts: &Arc<Counts, Global>,
-    sink: &mut MemSink,
-) -> Result<(u8, u64), AllocError> {
-    let Setting {
-        words,
-        mut source,
-        mut net,
-        mut tools,
-    } = setting_of(alloc, &row_of(relay), counts)?;
-    let link = link_of(alloc, relay.gives)?;
+    setting: &mut Setting,
+    link: L,
+) -> (u8, u64) {
     let (status, tally) = relay_run(
         rt,
         alloc,
-        words.as_slice(),
-        &mut source,
+        setting.words.as_slice(),
+        &mut setting.source,
         link,
-        &mut net,
+        &mut setting.net,
         &mut Idle::new(0),
-        &mut tools,
-        sink,
+        &mut setting.tools,
+        &mut setting.sink,
     );
-    Ok((status, tally.number()))
+    (status, tally.number())
 }
 
 /// Whether a server ends as it says.
 fn ends_so<R: Wait>(rt: &R, alloc: Global, relay: &Relay) -> Result<bool, AllocError> {
     let row = row_of(relay);
     let counts = counts_of(alloc)?;
-    let mut sink = sink_of(alloc, &row)?;
-    let ended = run(rt, alloc, relay, &counts, &mut sink)?;
-    Ok(is_ended(&row, &counts, &sink, ended))
+    let link = box_of(alloc, relay.gives, &[])?;
+    let mut setting = setting_of(alloc, &row, &counts)?;
+    let ended = run(rt, alloc, &mut setting, link);
+    Ok(is_ended(&row, &counts, &setting.sink, ended))
 }
 
 #[test]

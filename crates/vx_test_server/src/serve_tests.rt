@@ -1,7 +1,5 @@
 //! Servers whose workers never run: the causes of each status, and what is written.
 use crate::served_tests::{Ends, Log, Row, Side, ends_so};
-use std::alloc::Global;
-use std::sync::Wait;
 use vx_io_traits::{Spawner, Started, Work};
 use vx_serve::BENCH_MAX;
 
@@ -53,7 +51,7 @@ const USAGE: Ends = Ends {
 
 /// A server that nothing disturbs.
 pub(crate) const PLAIN: Row = Row {
-    words: &[],
+    words: "",
     bench: "",
     lines: 0,
     core: &[],
@@ -70,7 +68,7 @@ pub(crate) const PLAIN: Row = Row {
 static WORDS: [Row; 6] = [
     PLAIN,
     Row {
-        words: &["--core", "1", "--abort=65535", "--limit", "7"],
+        words: "--core 1 --abort=65535 --limit 7",
         ends: Ends {
             text: "listening 1 65535\nserved 0\n",
             ..SERVED
@@ -79,23 +77,23 @@ static WORDS: [Row; 6] = [
     },
     // words that are refused
     Row {
-        words: &["--workers", "65"],
+        words: "--workers 65",
         ends: USAGE,
         ..PLAIN
     },
     Row {
-        words: &["--core", "0"],
+        words: "--core 0",
         ends: USAGE,
         ..PLAIN
     },
     Row {
-        words: &["serve"],
+        words: "serve",
         ends: USAGE,
         ..PLAIN
     },
     // where the words don't ask to serve, the bench isn't read
     Row {
-        words: &["--version"],
+        words: "--version",
         reads: &[1],
         ends: Ends {
             text: "vxgate 0.1.0\n",
@@ -285,7 +283,7 @@ static FAULTS: [Row; 10] = [
         ..PLAIN
     },
     Row {
-        words: &["--workers", "65"],
+        words: "--workers 65",
         writes: &[1],
         ends: Ends {
             status: 6,
@@ -299,7 +297,7 @@ static FAULTS: [Row; 10] = [
 /// Words are met before the bench, the bench before the ports, and the ports before the workers.
 static TWICE: [Row; 3] = [
     Row {
-        words: &["--core", "0"],
+        words: "--core 0",
         bench: "at 1",
         fails: &[1],
         refuses: 1,
@@ -333,7 +331,7 @@ static TWICE: [Row; 3] = [
 /// limit, or all that there are. The replies are those of links 1, 2 and 3, which differ in one byte from the first.
 static LINKS: [Row; 2] = [
     Row {
-        words: &["--limit", "2"],
+        words: "--limit 2",
         core: &[Side::Short; 3],
         ends: Ends {
             text: "listening 9010 9011\nserved 2\n",
@@ -357,12 +355,6 @@ static LINKS: [Row; 2] = [
     },
 ];
 
-/// Runs the server of a row, whose workers never run.
-fn ends_so_idle<R: Wait>(rt: &R, alloc: Global, row: &Row) -> Option<bool> {
-    let spawner = Idle::new(row.refuses);
-    ends_so(rt, alloc, row, spawner)
-}
-
 #[test]
 fn servers_end_so(rt: HostRuntime) {
     let tables = [
@@ -374,7 +366,7 @@ fn servers_end_so(rt: HostRuntime) {
     ];
     for (name, rows) in &tables {
         for (place, row) in rows.iter().enumerate() {
-            let is_so = ends_so_idle(&rt, rt.alloc(), row);
+            let is_so = ends_so(&rt, rt.alloc(), row, Idle::new(row.refuses));
             assert!(rt; is_so == Some(true), "{name} {place}");
         }
     }

@@ -2,13 +2,15 @@
 //! composed by hand from their words.
 ghost use Rattle.std.specs.Prelude.{None};
 
-use crate::thread_tools::{Starter, thread_spawner};
+use crate::client_tools::line_words;
 use arrayvec::ArrayString;
 use crossbeam_channel::{Receiver, Sender, unbounded};
 use std::alloc::{AllocError, Global};
+use std::io::Stderr;
 use std::sync::atomic::{AtomicU64, Ordering};
 use std::sync::{Arc, Wait};
 use std::thread::{self, Threads};
+use vx_host::{Wiring, wire};
 use vx_io_traits::{
     Clock, Dial, DialOut, Handed, Link, Pause, ReadOut, Sink, Spawner, Streams, WriteOut,
 };
@@ -18,61 +20,50 @@ use vx_serve::{Logs, Serve, serve_run};
 use vx_session::Tools;
 
 // create_link of `gpib0,5`, xid 1
-const CREATE: [u8; 68] =
+static CREATE: [u8; 68] =
     *b"\x80\0\0@\0\0\0\x01\0\0\0\0\0\0\0\x02\0\x06\x07\xaf\0\0\0\x01\0\0\0\x0a\0\0\0\0\0\0\0\0\0\0\0\0\0\0\0\0\0\0\0\0\0\0\0\0\0\0\0\0\0\0\0\x07gpib0,5\0";
 
 // create_intr_chan to 127.0.0.1, port 9012, xid 2
-const CHANNEL: [u8; 64] =
+static CHANNEL: [u8; 64] =
     *b"\x80\0\0<\0\0\0\x02\0\0\0\0\0\0\0\x02\0\x06\x07\xaf\0\0\0\x01\0\0\0\x19\0\0\0\0\0\0\0\0\0\0\0\0\0\0\0\0\x7f\0\0\x01\0\0#4\0\x06\x07\xb1\0\0\0\x01\0\0\0\0";
 
 // device_enable_srq of link 1 with the handle `a`, xid 3
-const ENABLE: [u8; 60] =
+static ENABLE: [u8; 60] =
     *b"\x80\0\08\0\0\0\x03\0\0\0\0\0\0\0\x02\0\x06\x07\xaf\0\0\0\x01\0\0\0\x14\0\0\0\0\0\0\0\0\0\0\0\0\0\0\0\0\0\0\0\x01\0\0\0\x01\0\0\0\x01a\0\0\0";
 
 // device_write of `A` to link 1 with END, xid 4
-const WRITE: [u8; 68] =
+static WRITE: [u8; 68] =
     *b"\x80\0\0@\0\0\0\x04\0\0\0\0\0\0\0\x02\0\x06\x07\xaf\0\0\0\x01\0\0\0\x0b\0\0\0\0\0\0\0\0\0\0\0\0\0\0\0\0\0\0\0\x01\0\0'\x10\0\0\0\0\0\0\0\x08\0\0\0\x01A\0\0\0";
 
 // device_abort of link 1, xid 1
-const ABORT: [u8; 48] =
+static ABORT: [u8; 48] =
     *b"\x80\0\0,\0\0\0\x01\0\0\0\0\0\0\0\x02\0\x06\x07\xb0\0\0\0\x01\0\0\0\x01\0\0\0\0\0\0\0\0\0\0\0\0\0\0\0\0\0\0\0\x01";
 
-// the reply to create_link: link 1, abort port 9011, at most 262,144 bytes
-const CREATED: [u8; 44] =
-    *b"\x80\0\0(\0\0\0\x01\0\0\0\x01\0\0\0\0\0\0\0\0\0\0\0\0\0\0\0\0\0\0\0\0\0\0\0\x01\0\0#3\0\x04\0\0";
-
-// the reply to create_intr_chan
-const CHANNEL_MADE: [u8; 32] =
-    *b"\x80\0\0\x1c\0\0\0\x02\0\0\0\x01\0\0\0\0\0\0\0\0\0\0\0\0\0\0\0\0\0\0\0\0";
-
-// the reply to device_enable_srq
-const ENABLED: [u8; 32] =
-    *b"\x80\0\0\x1c\0\0\0\x03\0\0\0\x01\0\0\0\0\0\0\0\0\0\0\0\0\0\0\0\0\0\0\0\0";
-
-// the reply to device_write: one byte
-const WRITTEN: [u8; 36] =
-    *b"\x80\0\0 \0\0\0\x04\0\0\0\x01\0\0\0\0\0\0\0\0\0\0\0\0\0\0\0\0\0\0\0\0\0\0\0\x01";
+// all that a core link takes: the replies to create_link (link 1, abort port 9011, at most 262,144 bytes), create_intr_chan, device_enable_srq
+// and device_write (one byte)
+static CORE_TAKES: [u8; 144] =
+    *b"\x80\0\0(\0\0\0\x01\0\0\0\x01\0\0\0\0\0\0\0\0\0\0\0\0\0\0\0\0\0\0\0\0\0\0\0\x01\0\0#3\0\x04\0\0\x80\0\0\x1c\0\0\0\x02\0\0\0\x01\0\0\0\0\0\0\0\0\0\0\0\0\0\0\0\0\0\0\0\0\x80\0\0\x1c\0\0\0\x03\0\0\0\x01\0\0\0\0\0\0\0\0\0\0\0\0\0\0\0\0\0\0\0\0\x80\0\0 \0\0\0\x04\0\0\0\x01\0\0\0\0\0\0\0\0\0\0\0\0\0\0\0\0\0\0\0\0\0\0\0\x01";
 
 // the reply to device_abort
-const ABORTED: [u8; 32] =
+static ABORTED: [u8; 32] =
     *b"\x80\0\0\x1c\0\0\0\x01\0\0\0\x01\0\0\0\0\0\0\0\0\0\0\0\0\0\0\0\0\0\0\0\0";
 
 // the interrupt call with the handle `a`, xid 1
-const INTERRUPT: [u8; 52] =
+static INTERRUPT: [u8; 52] =
     *b"\x80\0\00\0\0\0\x01\0\0\0\0\0\0\0\x02\0\x06\x07\xb1\0\0\0\x01\0\0\0\x1e\0\0\0\0\0\0\0\0\0\0\0\0\0\0\0\0\0\0\0\x01a\0\0\0";
 
 /// The most turns that a link waits for another.
 const TURNS: u64 = 1_000_000;
 
-/// How many bytes the links of each side took that are those of its replies, at their places; how often each line that is due in
-/// the log was written, in eight bits a line; and how many lines were that aren't due.
+/// How many bytes the links of each side took that are those of its replies, at their places; how many lines were written into the
+/// log; and how often each line was that is due there, in eight bits a line.
 #[derive(Drop)]
 pub(crate) struct Counts {
     core: AtomicU64,
     abort: AtomicU64,
     interrupt: AtomicU64,
     lines: AtomicU64,
-    strange: AtomicU64,
+    due_lines: AtomicU64,
 }
 
 /// Waits until a count is there, and says whether it is.
@@ -112,22 +103,13 @@ fn record_of(side: Side, counts: &Counts, step: u64) -> &'static [u8] {
     }
 }
 
-/// The byte that is due at a place of all that a side takes.
-fn due(side: Side, place: usize) -> Option<u8> {
-    let parts: [&[u8]; 4] = match side {
-        Side::Short => [&CREATED, &[], &[], &[]],
-        Side::Core => [&CREATED, &CHANNEL_MADE, &ENABLED, &WRITTEN],
-        Side::Abort => [&ABORTED, &[], &[], &[]],
-        Side::Interrupt => [&INTERRUPT, &[], &[], &[]],
-    };
-    let mut at = place;
-    for part in parts {
-        if at < part.len() {
-            return Some(part[at]);
-        }
-        at -= part.len();
+/// All that a side takes. The short one takes no more than the reply to its create_link.
+fn due(side: Side) -> &'static [u8] {
+    match side {
+        Side::Short | Side::Core => &CORE_TAKES,
+        Side::Abort => &ABORTED,
+        Side::Interrupt => &INTERRUPT,
     }
-    None
 }
 
 /// A link of a side: it gives a record a receive, and compares each byte that it takes with the one that is due.
@@ -180,7 +162,7 @@ impl Link for Comparing {
 
     fn send(&mut self, from: &[u8]) -> WriteOut {
         for byte in from {
-            if due(self.side, self.took) == Some(*byte) {
+            if due(self.side).get(self.took) == Some(byte) {
                 self.count().fetch_add(1, Ordering::SeqCst);
             }
             self.took = self.took.saturating_add(1);
@@ -265,17 +247,6 @@ impl Streams for Handled {
     }
 }
 
-/// What one line of each place adds to the count of the lines that are due.
-const PLACES: [u64; 6] = [1, 1 << 8, 1 << 16, 1 << 24, 1 << 32, 1 << 40];
-
-/// The count of so many lines, each written once.
-fn each_once(lines: usize) -> u64 {
-    PLACES
-        .iter()
-        .take(lines)
-        .fold(0u64, |sum, one| sum.saturating_add(*one))
-}
-
 /// The log that is due. It is a name and not the lines, since a work with a reference in it can't be handed to a thread here.
 #[derive(Clone, Copy)]
 pub(crate) enum Log {
@@ -287,8 +258,8 @@ pub(crate) enum Log {
 }
 
 impl Log {
-    /// Its lines.
-    fn lines(self) -> &'static [&'static str] {
+    /// Its lines, and what each adds to the count of the lines that are due.
+    fn lines(self) -> &'static [(&'static str, u64)] {
         match self {
             Log::Nothing => &THREE_LINKS[..0],
             Log::OneLink => &THREE_LINKS[..2],
@@ -300,24 +271,24 @@ impl Log {
 }
 
 /// The log of three links, one after another.
-static THREE_LINKS: [&str; 6] = [
-    "core 1 came\n",
-    "core 1 ended: closed by its peer, 1 calls\n",
-    "core 2 came\n",
-    "core 2 ended: closed by its peer, 1 calls\n",
-    "core 3 came\n",
-    "core 3 ended: closed by its peer, 1 calls\n",
+static THREE_LINKS: [(&str, u64); 6] = [
+    ("core 1 came\n", 1),
+    ("core 1 ended: closed by its peer, 1 calls\n", 1 << 8),
+    ("core 2 came\n", 1 << 16),
+    ("core 2 ended: closed by its peer, 1 calls\n", 1 << 24),
+    ("core 3 came\n", 1 << 32),
+    ("core 3 ended: closed by its peer, 1 calls\n", 1 << 40),
 ];
 
 /// The log of a core link and an abort link.
-static INTERRUPTED_LOG: [&str; 4] = [
-    "core 1 came\n",
-    "core 1 ended: closed by its peer, 4 calls\n",
-    "abort 1 came\n",
-    "abort 1 ended: closed by its peer, 1 calls\n",
+static INTERRUPTED_LOG: [(&str, u64); 4] = [
+    ("core 1 came\n", 1),
+    ("core 1 ended: closed by its peer, 4 calls\n", 1 << 8),
+    ("abort 1 came\n", 1 << 16),
+    ("abort 1 ended: closed by its peer, 1 calls\n", 1 << 24),
 ];
 
-/// A log that counts the lines that are due.
+/// A log that counts its lines, and adds up what those add that are due.
 #[derive(Drop)]
 pub(crate) struct Recorder {
     due: Log,
@@ -331,15 +302,12 @@ impl Sink for Recorder {
 
     fn write(&mut self, from: &[u8]) -> WriteOut {
         if let Some(counts) = &self.counts {
-            let place = self
-                .due
-                .lines()
-                .iter()
-                .position(|line| line.as_bytes() == from);
-            match place.and_then(|place| PLACES.get(place)) {
-                Some(one) => counts.lines.fetch_add(*one, Ordering::SeqCst),
-                None => counts.strange.fetch_add(1, Ordering::SeqCst),
-            };
+            for (line, one) in self.due.lines() {
+                if line.as_bytes() == from {
+                    counts.due_lines.fetch_add(*one, Ordering::SeqCst);
+                }
+            }
+            counts.lines.fetch_add(1, Ordering::SeqCst);
         }
         WriteOut::Took(from.len())
     }
@@ -417,7 +385,7 @@ pub(crate) fn counts_of(alloc: Global) -> Result<Arc<Counts, Global>, AllocError
         abort: AtomicU64::new(0),
         interrupt: AtomicU64::new(0),
         lines: AtomicU64::new(0),
-        strange: AtomicU64::new(0),
+        due_lines: AtomicU64::new(0),
     };
     Ok(Arc::new(alloc, counts)?)
 }
@@ -456,14 +424,6 @@ fn bag_of(alloc: Global, row: &Row, counts: &Arc<Counts, Global>) -> Result<Bag,
     })
 }
 
-fn words_of(alloc: Global, row: &Row) -> Result<Vec<String>, AllocError> {
-    let mut words = Vec::new(alloc);
-    for word in row.words {
-        words.push(String::from_str(alloc, word)?)?;
-    }
-    Ok(words)
-}
-
 /// The bench of a row, and so many LFs behind it.
 fn source_of(alloc: Global, row: &Row) -> Result<MemSource, AllocError> {
     let mut bench = row.bench.as_bytes().to_vec(alloc)?;
@@ -476,7 +436,7 @@ fn source_of(alloc: Global, row: &Row) -> Result<MemSource, AllocError> {
 /// then how it ends, and the lines of its log, each once and in any order.
 #[derive(Clone, Copy)]
 pub(crate) struct Row {
-    pub words: &'static [&'static str],
+    pub words: &'static str,
     pub bench: &'static str,
     pub lines: usize,
     pub core: &'static [Side],
@@ -499,13 +459,14 @@ pub(crate) struct Ends {
     pub bytes: [u64; 3],
 }
 
-/// What the server of a row runs with: its words, the source of its bench, its net, and its tools.
+/// What the server of a row runs with: its words, the source of its bench, its net, its tools, and a sink of which the row's writes fail.
 #[derive(Drop)]
 pub(crate) struct Setting {
     pub words: Vec<String>,
     pub source: MemSource,
     pub net: MemNet<Comparing>,
     pub tools: Bag,
+    pub sink: MemSink,
 }
 
 pub(crate) fn setting_of(
@@ -513,27 +474,28 @@ pub(crate) fn setting_of(
     row: &Row,
     counts: &Arc<Counts, Global>,
 ) -> Result<Setting, AllocError> {
-    let words = words_of(alloc, row)?;
+    let words = line_words(alloc, row.words)?;
     let source = source_of(alloc, row)?;
-    let net = net_of(alloc, row, counts)?;
+    let fails = row.writes.to_vec(alloc)?;
     let tools = bag_of(alloc, row, counts)?;
+    let net = net_of(alloc, row, counts)?;
     Ok(Setting {
         words,
         source,
         net,
         tools,
+        sink: MemSink::new(Vec::new(alloc), fails),
     })
 }
 
 /// Runs a server with these, and answers its status and the number of its tally.
-fn run_with<R: Wait, W: Spawner<Job>>(
+fn run<R: Wait, W: Spawner<Job>>(
     rt: &R,
     alloc: Global,
     setting: &mut Setting,
+    rack: Vec<Spare<Asker>>,
     spawner: &mut W,
-    sink: &mut MemSink,
-) -> Option<(u8, u64)> {
-    let rack = askers(alloc)?;
+) -> (u8, u64) {
     let (status, tally) = serve_run(
         rt,
         alloc,
@@ -542,31 +504,23 @@ fn run_with<R: Wait, W: Spawner<Job>>(
         &mut setting.net,
         spawner,
         &mut setting.tools,
-        sink,
+        &mut setting.sink,
         rack,
     );
-    Some((status, tally.number()))
-}
-
-/// Runs the server of a row.
-fn run<R: Wait, W: Spawner<Job>>(
-    rt: &R,
-    alloc: Global,
-    row: &Row,
-    counts: &Arc<Counts, Global>,
-    spawner: &mut W,
-    sink: &mut MemSink,
-) -> Option<(u8, u64)> {
-    let mut setting = setting_of(alloc, row, counts).ok()?;
-    run_with(rt, alloc, &mut setting, spawner, sink)
+    (status, tally.number())
 }
 
 /// Whether each line that is due in the log comes once, and no other was written.
 fn is_logged(row: &Row, counts: &Counts) -> bool {
-    let due = each_once(row.log.lines().len());
-    comes(&counts.lines, due)
-        && counts.lines.load(Ordering::SeqCst) == due
-        && counts.strange.load(Ordering::SeqCst) == 0
+    let mut all = 0u64;
+    let mut due = 0u64;
+    for (_, one) in row.log.lines() {
+        all = all.saturating_add(1);
+        due = due.saturating_add(*one);
+    }
+    comes(&counts.lines, all)
+        && counts.lines.load(Ordering::SeqCst) == all
+        && counts.due_lines.load(Ordering::SeqCst) == due
 }
 
 /// Whether a server that ended so ended as its row says.
@@ -580,25 +534,6 @@ pub(crate) fn is_ended(row: &Row, counts: &Counts, sink: &MemSink, ended: (u8, u
     is_told && ended == (row.ends.status, row.ends.number) && bytes == row.ends.bytes
 }
 
-/// A sink of which the writes of a row fail.
-pub(crate) fn sink_of(alloc: Global, row: &Row) -> Result<MemSink, AllocError> {
-    let fails = row.writes.to_vec(alloc)?;
-    Ok(MemSink::new(Vec::new(alloc), fails))
-}
-
-/// Whether the server of a row ends as it says, with this count of what is due.
-fn ends_so_by<R: Wait, W: Spawner<Job>>(
-    rt: &R,
-    alloc: Global,
-    row: &Row,
-    counts: &Arc<Counts, Global>,
-    spawner: &mut W,
-) -> Option<bool> {
-    let mut sink = sink_of(alloc, row).ok()?;
-    let ended = run(rt, alloc, row, counts, spawner, &mut sink)?;
-    Some(is_ended(row, counts, &sink, ended))
-}
-
 /// Whether the server of a row ends as it says, where there is memory for it.
 pub(crate) fn ends_so<R: Wait, W: Spawner<Job> + Drop>(
     rt: &R,
@@ -607,24 +542,28 @@ pub(crate) fn ends_so<R: Wait, W: Spawner<Job> + Drop>(
     spawner: W,
 ) -> Option<bool> {
     let mut spawner = spawner;
+    let rack = askers(alloc)?;
     let counts = counts_of(alloc).ok()?;
-    ends_so_by(rt, alloc, row, &counts, &mut spawner)
+    let mut setting = setting_of(alloc, row, &counts).ok()?;
+    let ended = run(rt, alloc, &mut setting, rack, &mut spawner);
+    Some(is_ended(row, &counts, &setting.sink, ended))
 }
 
-/// The same with a thread for each worker, until the thread that starts them has ended.
+/// The same with a thread for each worker.
 fn ends_so_in_threads<R: Threads + Wait + Copy + Send + 'static>(
     rt: R,
     alloc: Global,
+    stderr: Stderr,
     row: &Row,
 ) -> Option<bool> {
-    let Starter { spawner, thread } = thread_spawner(rt, alloc)?;
-    let so = ends_so(&rt, alloc, row, spawner);
-    thread.join(&rt);
-    so
+    match wire(rt, alloc, stderr, false) {
+        Ok(Wiring { spawner, .. }) => ends_so(&rt, alloc, row, spawner),
+        Err(_) => None,
+    }
 }
 
 /// One worker of core links, and one of streams.
-const ONE: &[&str] = &["--workers", "1"];
+const ONE: &str = "--workers 1";
 
 /// One core link, which makes a link of the gateway.
 static SHORT: Row = Row {
@@ -672,7 +611,7 @@ fn links_are_served_in_threads(rt: HostRuntime) {
         ("a link", &SHORT),
         ("an interrupt and an abort", &INTERRUPTED),
     ] {
-        let is_so = ends_so_in_threads(rt, rt.alloc(), row);
+        let is_so = ends_so_in_threads(rt, rt.alloc(), rt.stderr(), row);
         assert!(rt; is_so == Some(true), "{name}");
     }
 }

@@ -1,18 +1,9 @@
 //! Words, and what is asked by them, with ample memory.
 
-use crate::client_run_tests::line_words;
+use crate::client_tools::line_words;
 use std::alloc::{AllocError, Global};
 use std::test::Fail;
 use vx_startup::{Asked, Options, read_words};
-
-/// What the words of a line ask for, or no words where it is empty.
-fn asked(alloc: Global, line: &str) -> Result<Asked, AllocError> {
-    if line.is_empty() {
-        return Ok(read_words(alloc, &[]));
-    }
-    let words = line_words(alloc, line)?;
-    Ok(read_words(alloc, words.as_slice()))
-}
 
 /// The numbers of options: core, abort, sample, workers, limit; and behind a bar keepalive, send-timeout, idle, abort-idle and
 /// whether there is a log, where these aren't as usual; or behind a slash patience and whether there is a port mapper.
@@ -44,7 +35,8 @@ fn numbers(alloc: Global, options: Options) -> Result<String, AllocError> {
 
 /// What a line is answered with: the numbers that it sets, the text that is told, or that it is refused.
 fn answer(alloc: Global, line: &str) -> Result<String, AllocError> {
-    match asked(alloc, line)? {
+    let words = line_words(alloc, line)?;
+    match read_words(alloc, words.as_slice()) {
         Asked::Serve(options) => numbers(alloc, options),
         Asked::Tell(text) => Ok(text),
         Asked::Usage => String::from_str(alloc, "refused"),

@@ -31,54 +31,75 @@ pub(crate) struct Peer<B: Bus + Drop> {
     reply: Vec<u8>,
     from: usize,
     to: usize,
-    /// How many records were sent, also where others see it.
-    records: u64,
-    pub(crate) seen: Option<Arc<AtomicU64, Global>>,
+    /// How many records were sent.
+    records: Count,
+    /// How many reaches were made.
+    reaches: u64,
+    conduct: Conduct,
+}
+
+/// A number that others see too.
+pub(crate) type Count = Arc<AtomicU64, Global>;
+
+/// When a connection breaks and how time passes.
+#[derive(Clone, Copy)]
+pub(crate) struct Conduct {
     /// The number of the record, counted from 1, at which the connection breaks before it is handed over, and of the one at which it
     /// breaks once the call was done.
-    pub(crate) before: u64,
-    pub(crate) behind: u64,
+    pub before: u64,
+    pub behind: u64,
+    /// The first and the last of the reaches that are refused, counted from 1.
+    pub refuses: (u64, u64),
     /// How many milliseconds pass with each record.
-    pub(crate) pace: u64,
-    /// How many reaches were made, and which is the first and which the last of those that are refused.
-    reaches: u64,
-    pub(crate) refuses: (u64, u64),
+    pub pace: u64,
 }
+
+/// It never breaks, and no time passes.
+pub(crate) const CALM: Conduct = Conduct {
+    before: 0,
+    behind: 0,
+    refuses: (0, 0),
+    pace: 0,
+};
 
 /// A link to a gateway. A reach makes another connection.
 #[derive(Drop)]
 pub(crate) struct BoxLink<B: Bus + Drop> {
-    pub(crate) peer: Peer<B>,
+    peer: Peer<B>,
     refused: u64,
     send_faults: u64,
 }
 
-/// The room of a reply.
-pub(crate) fn reply_room(alloc: Global) -> Option<Vec<u8>> {
-    vec![in alloc; 0u8; REPLY_ROOM].ok()
+/// A count of nothing yet.
+pub(crate) fn count_of(alloc: Global) -> Option<Count> {
+    Arc::new(alloc, AtomicU64::new(0)).ok()
 }
 
-/// A link to this gateway that never breaks, with this room for replies.
-pub(crate) fn box_link<B: Bus + Drop>(alloc: Global, core: Core<B>, reply: Vec<u8>) -> BoxLink<B> {
-    BoxLink {
-        peer: Peer {
-            alloc,
-            core,
-            conn: 0,
-            xid: 0,
-            reply,
-            from: 0,
-            to: 0,
-            records: 0,
-            seen: None,
-            before: 0,
-            behind: 0,
-            pace: 0,
-            reaches: 0,
-            refuses: (0, 0),
-        },
-        refused: 0,
-        send_faults: 0,
+/// A link of this conduct to this gateway. Its records are counted here.
+pub(crate) fn box_link<B: Bus + Drop>(
+    alloc: Global,
+    core: Core<B>,
+    conduct: Conduct,
+    records: Count,
+) -> Option<BoxLink<B>> {
+    match vec![in alloc; 0u8; REPLY_ROOM] {
+        Ok(reply) => Some(BoxLink {
+            peer: Peer {
+                alloc,
+                core,
+                conn: 0,
+                xid: 0,
+                reply,
+                from: 0,
+                to: 0,
+                records,
+                reaches: 0,
+                conduct,
+            },
+            refused: 0,
+            send_faults: 0,
+        }),
+        Err(_) => None,
     }
 }
 
@@ -91,14 +112,6 @@ impl<B: Bus + Drop> Peer<B> {
         self.conn = 0;
         self.from = 0;
         self.to = 0;
-    }
-
-    /// One more record was sent.
-    fn count(&mut self) {
-        self.records = self.records.saturating_add(1);
-        if let Some(seen) = &self.seen {
-            seen.fetch_add(1, Ordering::SeqCst);
-        }
     }
 
     /// The reply is what a poll came to.
@@ -118,15 +131,10 @@ impl<B: Bus + Drop> Peer<B> {
             return;
         }
         match open(message, Role::Core, self.reply.as_mut_slice()) {
-            Opened::Junk => self.fall(),
-            Opened::Aborts { .. } => self.fall(),
-            Opened::Answered { len } => {
-                self.from = 0;
-                self.to = len;
-            }
+            Opened::Junk | Opened::Aborts { .. } | Opened::Answered { .. } => self.fall(),
             Opened::Asks { xid, call } => {
                 if self.core.role(self.conn) == Some(Role::Core) && !self.core.pending(self.conn) {
-                    let now = self.core.moment().saturating_add(self.pace);
+                    let now = self.core.moment().saturating_add(self.conduct.pace);
                     self.xid = xid;
                     let end = come(
                         &mut self.core,
@@ -144,15 +152,18 @@ impl<B: Bus + Drop> Peer<B> {
 
     /// Takes a record.
     fn take(&mut self, record: &[u8]) {
-        self.count();
-        if self.before == self.records {
+        let number = self
+            .records
+            .fetch_add(1, Ordering::SeqCst)
+            .saturating_add(1);
+        if self.conduct.before == number {
             self.fall();
             return;
         }
         if MARK < record.len() && record.len() <= MARK + RECORD_MAX {
             self.serve(&record[MARK..]);
         }
-        if self.behind == self.records {
+        if self.conduct.behind == number {
             self.fall();
         }
     }
@@ -200,7 +211,8 @@ impl<B: Bus + Drop> Peer<B> {
     /// Makes another connection, and says whether there is one.
     fn connect(&mut self) -> bool {
         self.reaches = self.reaches.saturating_add(1);
-        if self.refuses.0 <= self.reaches && self.reaches <= self.refuses.1 {
+        let (first, last) = self.conduct.refuses;
+        if first <= self.reaches && self.reaches <= last {
             return false;
         }
         self.fall();
