@@ -79,7 +79,7 @@ class Card(card.Helper):
     """The helper in its simulated form, with an instrument at 5 that says messages back."""
 
     def __init__(self, *faults, **how):
-        super().__init__(programs["card"], *faults, **how)
+        super().__init__(*programs["card"], *faults, **how)
 
     def start(self, port):
         process = super().start(port)
