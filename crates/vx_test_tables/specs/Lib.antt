@@ -7,3 +7,4 @@ pub mod Polled
 pub mod Claims
 pub mod Arrivals
 pub mod InLine
+pub mod Toys

@@ -33,7 +33,7 @@ pub struct Latch {
 impl Instrument for Latch {
     ghost use Rattle.std.specs.Prelude.{true, map, is_none};
     ghost use Rattle.std.specs.Option.{option_to_list};
-    ghost use Rattle.vx_test_bus.specs.Toys.{latch_behavior};
+    ghost use Rattle.vx_test_tables.specs.Toys.{latch_behavior};
 
     ghost behaves = { λ latch. latch_behavior (record { inbox = option_to_list latch.taken; out = map (λ b. record { value = b; end = true }) (option_to_list latch.given); stb = latch.stb; rqs = latch.asks; ready = is_none latch.taken }) };
 
