@@ -4,6 +4,7 @@ ghost use Rattle.vx_buses.specs.Passing.{passes_shown, IsOf};
 ghost use Rattle.vx_buses.specs.Standing.{gates_shown};
 
 use crate::buses_tools::fleet;
+use crate::desk_tools::serve_at_desk;
 use crate::record_tools::{are_words, words};
 use std::alloc::Global;
 use std::sync::Wait;
@@ -11,7 +12,7 @@ use vx_bus_traits::Bus;
 use vx_buses::{BusPass, Buses, Count, Fleet, FleetWorker};
 use vx_calls::Role;
 use vx_memory::MemLink;
-use vx_session::{End, Linked, NoTools, Room, serve_link};
+use vx_session::{End, Linked, NoTools, Room};
 
 // create_link of `gpib2,5` and of `GPIB0,5`; device_write of `A` with END on links 3 and 2; destroy_intr_chan; create_intr_chan;
 // device_read on link 3, and on link 1 with no time; create_link of `gpib1,5` and of `gpib3,5`; device_readstb on links 1 to 4
@@ -90,8 +91,7 @@ fn serve_by<R: Wait, B: Bus>(
         clock: &mut NoTools::new(),
         pause: &mut NoTools::new(),
     };
-    let (_desk, how) = serve_link(rt, alloc, desk, Role::Core, link, room);
-    how
+    serve_at_desk(rt, alloc, desk, link, room)
 }
 
 /// Serves a link by so many of four gateways of its own.

@@ -304,16 +304,27 @@ fn rack_of(alloc: Global) -> Option<Vec<Spare<Echo>>>
     Some(rack)
 }
 
+/// Runs a guard by these rules, and answers its status.
+fn run<R: Wait>(
+    rt: &R,
+    alloc: Global,
+    rules: &mut MemSource,
+    outside: &mut Outside,
+    rack: Vec<Spare<Echo>>,
+) -> u8
+    requires { vec_len rack ≡ 1 }
+{
+    let Outside { words, door, sink } = outside;
+    let mut tools = StillTools { alloc };
+    guard_run(rt, alloc, words, rules, door, &mut tools, sink, rack)
+}
+
 /// Runs a row, and answers whether it went as the row says.
 fn went<R: Wait>(rt: &R, alloc: Global, row: &Row) -> Option<bool> {
     let mut rules = rules_of(alloc, row)?;
-    let rack = rack_of(alloc)?;
     let mut outside = outside_of(alloc, row.words, row.gives, row.door_fails, row.sink_fails)?;
-    let Outside { words, door, sink } = &mut outside;
-    let mut tools = StillTools { alloc };
-    let status = guard_run(rt, alloc, words, &mut rules, door, &mut tools, sink, rack);
-    let is_so = went_so(&outside, row.text, row.took, row.port);
-    Some(status == row.status && is_so)
+    let status = run(rt, alloc, &mut rules, &mut outside, rack_of(alloc)?);
+    Some(status == row.status && went_so(&outside, row.text, row.took, row.port))
 }
 
 #[test]

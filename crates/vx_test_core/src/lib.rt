@@ -19,6 +19,8 @@ mod crossed_session_tests;
 #[cfg(test)]
 mod crossing_tools;
 #[cfg(test)]
+mod desk_tools;
+#[cfg(test)]
 mod gateway_tools;
 #[cfg(test)]
 mod guard_run_tests;

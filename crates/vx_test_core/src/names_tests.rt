@@ -2,6 +2,7 @@
 //! sections 9 and 11, and of VXI-11.
 ghost use Rattle.std.specs.Prelude.{◌≡◌};
 
+use crate::desk_tools::serve_at_desk;
 use crate::gateway_tools::gateway;
 use crate::guard_tools::{CREATE_AND_WRITE, WRITTEN};
 use crate::record_tools::{are_words, words};
@@ -13,7 +14,7 @@ use vx_core::Core;
 use vx_gate::{Pass, Turns};
 use vx_memory::MemLink;
 use vx_names::{NameRefused, NameTable, Named};
-use vx_session::{End, Linked, NoTools, OneBus, Room, Worker, serve_link};
+use vx_session::{End, Linked, NoTools, OneBus, Room, Worker};
 
 /// A name, and the device text that it is to stand for.
 type Pair = (&'static [u8], &'static [u8]);
@@ -46,41 +47,53 @@ static STANDS: [Pair; 8] = [
     (b"gpib0,5", b"gpib0,5"),
 ];
 
-/// The first row that is added otherwise, and the first text that stands for something else then.
-fn first_wrong(alloc: Global) -> Option<[Option<usize>; 2]> {
+/// Whether each name is added as its row says, and each text stands for what it should then.
+fn are_added(names: &mut NameTable) -> bool {
+    let mut all = true;
+    for (name, device, refused) in &ADDED {
+        all &= names.add(name, device).err() == *refused;
+    }
+    for (text, device) in &STANDS {
+        all &= names.device_of(text) == *device;
+    }
+    all
+}
+
+/// The same of a table of their own.
+fn are_added_anew(alloc: Global) -> Option<bool> {
     let mut names = NameTable::new(alloc).ok()?;
-    let added = ADDED
-        .iter()
-        .position(|row| names.add(row.0, row.1).err() != row.2);
-    let stands = STANDS
-        .iter()
-        .position(|row| names.device_of(row.0) != row.1);
-    Some([added, stands])
+    Some(are_added(&mut names))
 }
 
 #[test]
 fn names_are_added(rt: HostRuntime) {
-    assert!(rt; first_wrong(rt.alloc()) == Some([None, None]));
+    assert!(rt; are_added_anew(rt.alloc()) == Some(true));
 }
 
 // 65 names of one byte
 const SHORT: &[u8] = b"ABCDEFGHIJKLMNOPQRSTUVWXYZabcdefghijklmnopqrstuvwxyz0123456789+-/";
 
-/// Which name of one byte has no place in a table, and why one more is refused, and one that it has.
-fn fill(alloc: Global) -> Option<(Option<usize>, [Option<NameRefused>; 2])> {
-    let mut names = NameTable::new(alloc).ok()?;
-    let refused = SHORT
-        .iter()
-        .position(|byte| names.add(&[*byte], b"gpib0").is_err());
+/// How many names of one byte have a place in a table, and why one more is refused, and one that it has.
+fn fill(names: &mut NameTable) -> (usize, [Option<NameRefused>; 2]) {
+    let mut added = 0usize;
+    for byte in SHORT {
+        added = added.saturating_add(usize::from(names.add(&[*byte], b"gpib0").is_ok()));
+    }
     let more = names.add(b"!", b"gpib0").err();
     let again = names.add(b"A", b"gpib0").err();
-    Some((refused, [more, again]))
+    (added, [more, again])
+}
+
+/// The same of a table of their own.
+fn fill_anew(alloc: Global) -> Option<(usize, [Option<NameRefused>; 2])> {
+    let mut names = NameTable::new(alloc).ok()?;
+    Some(fill(&mut names))
 }
 
 #[test]
 fn a_table_is_full(rt: HostRuntime) {
     let full = [Some(NameRefused::TooMany), Some(NameRefused::Known)];
-    assert!(rt; fill(rt.alloc()) == Some((Some(64), full)));
+    assert!(rt; fill_anew(rt.alloc()) == Some((64, full)));
 }
 
 /// A table of names, what a link gives, and what it takes.
@@ -155,13 +168,20 @@ static ROWS: [Row; 6] = [
     },
 ];
 
+/// Adds names to a table, and answers whether each was.
+fn add_all(names: &mut NameTable, pairs: &[Pair]) -> bool {
+    let mut all = true;
+    for (name, device) in pairs {
+        all &= names.add(name, device).is_ok();
+    }
+    all
+}
+
 /// A table of these names.
 fn table_of(alloc: Global, pairs: &[Pair]) -> Option<NameTable> {
     let mut names = NameTable::new(alloc).ok()?;
-    for pair in pairs {
-        names.add(pair.0, pair.1).ok()?;
-    }
-    Some(names)
+    let is_whole = add_all(&mut names, pairs);
+    is_whole.then_some(names)
 }
 
 /// Serves a link at a desk with these names.
@@ -189,8 +209,7 @@ fn serve_at<R: Wait, B: Bus, T: Turns<Core<B>>>(
         pause: &mut NoTools::new(),
         dial: &mut NoTools::new(),
     };
-    let (_desk, how) = serve_link(rt, alloc, Named { desk, names }, Role::Core, link, room);
-    how
+    serve_at_desk(rt, alloc, Named { desk, names }, link, room)
 }
 
 /// The same at a gateway of its own.

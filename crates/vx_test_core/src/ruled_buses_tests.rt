@@ -1,17 +1,21 @@
 //! A session to four buses whose calls are judged by rules: a ruled desk over a fleet. The records are those of RFC 5531, sections 9
 //! and 11, and of VXI-11.
+ghost use Rattle.vx_buses.specs.Four.{Each};
+ghost use Rattle.vx_buses.specs.Passing.{passes_shown, IsOf};
+ghost use Rattle.vx_buses.specs.Standing.{gates_shown};
 
 use crate::buses_tools::fleet;
+use crate::desk_tools::serve_at_desk;
 use crate::record_tools::{are_words, words};
 use std::alloc::Global;
 use std::sync::Wait;
-use std::test::Fail;
-use vx_buses::{Count, Fleet, FleetWorker};
+use vx_bus_traits::Bus;
+use vx_buses::{BusPass, Buses, Count, Fleet, FleetWorker};
 use vx_calls::Role;
 use vx_guard::Ruled;
 use vx_memory::{MemLink, MemSink};
 use vx_policy::{KnownLinks, Policy};
-use vx_session::{End, Linked, NoTools, Room, serve_link};
+use vx_session::{Desk, End, Linked, NoTools, Room};
 
 // create_link of `gpib2,5`; device_write of `A` with END on link 3; device_readstb on link 3
 const GIVES: [u32; 49] = [
@@ -26,17 +30,68 @@ const TOOK: [u32; 29] = [
     0x80000020, 3, 1, 0, 0, 0, 0, 0, 12,
 ];
 
-/// Serves a link by four gateways of its own, by rules that let nobody write.
-fn serve<R: Wait>(rt: &R, alloc: Global, link: &mut MemLink, note: &mut MemSink) -> Option<Linked> {
+/// What a session by rules has: the rules, the links that it knows, its room, its link, and the note.
+#[derive(Drop)]
+struct Kit {
+    policy: Policy,
+    made: KnownLinks,
+    room: Room,
+    link: MemLink,
+    note: MemSink,
+}
+
+/// The same by rules that let nobody write.
+fn kit_of(alloc: Global) -> Option<Kit> {
+    let gives = words(alloc, &GIVES, &[]).ok()?;
     let policy = Policy::from_text(alloc, b"deny * write *\nallow * * *").ok()?;
-    let mut made = KnownLinks::new(alloc).ok()?;
-    let mut room = Room::new(alloc).ok()?;
-    let (buses, passes) = fleet(alloc)?;
+    let made = KnownLinks::new(alloc).ok()?;
+    let room = Room::new(alloc).ok()?;
+    Some(Kit {
+        policy,
+        made,
+        room,
+        link: MemLink::new(gives, 100, Vec::new(alloc), Vec::new(alloc)),
+        note: MemSink::new(Vec::new(alloc), Vec::new(alloc)),
+    })
+}
+
+/// Serves its link at this desk by its rules.
+fn serve_ruled<R: Wait, D: Desk + Drop>(rt: &R, alloc: Global, desk: D, kit: &mut Kit) -> Linked
+    requires { D.free desk }
+{
+    let Kit {
+        policy,
+        made,
+        room,
+        link,
+        note,
+    } = kit;
+    let ruled = Ruled {
+        desk,
+        policy,
+        peer: 0x7F000001,
+        made,
+        note,
+        failed: false,
+    };
+    serve_at_desk(rt, alloc, ruled, link, room)
+}
+
+/// The same at the desk of these buses.
+fn serve_by<R: Wait, B: Bus>(
+    rt: &R,
+    alloc: Global,
+    buses: &Buses<B>,
+    passes: BusPass<B>,
+    kit: &mut Kit,
+) -> Linked
+    requires { Each IsOf (passes_shown passes) (gates_shown buses.now) }
+{
     let mut held = Some(passes);
     let desk = Fleet {
         worker: FleetWorker {
             rt,
-            buses: &buses,
+            buses,
             count: Count::Four,
             conns: [0; 4],
             role: Role::Core,
@@ -45,26 +100,26 @@ fn serve<R: Wait>(rt: &R, alloc: Global, link: &mut MemLink, note: &mut MemSink)
         clock: &mut NoTools::new(),
         pause: &mut NoTools::new(),
     };
-    let ruled = Ruled {
-        desk,
-        policy: &policy,
-        peer: 0x7F000001,
-        made: &mut made,
-        note,
-        failed: false,
-    };
-    let (_desk, how) = serve_link(rt, alloc, ruled, Role::Core, link, &mut room);
-    Some(how)
+    serve_ruled(rt, alloc, desk, kit)
+}
+
+/// The same by four gateways of its own.
+fn serve<R: Wait>(rt: &R, alloc: Global, kit: &mut Kit) -> Option<Linked> {
+    let (buses, passes) = fleet(alloc)?;
+    Some(serve_by(rt, alloc, &buses, passes, kit))
+}
+
+/// How it ends, and whether the link and the note took what they should.
+fn goes<R: Wait>(rt: &R, alloc: Global) -> Option<(Linked, bool)> {
+    let mut kit = kit_of(alloc)?;
+    let how = serve(rt, alloc, &mut kit)?;
+    let is_told = are_words(kit.link.bytes(), &TOOK)
+        && kit.note.bytes() == b"deny 1 1\n".as_slice();
+    Some((how, is_told))
 }
 
 #[test]
-fn rules_over_buses(rt: HostRuntime) -> Result<(), Fail> {
-    let alloc = rt.alloc();
-    let gives = words(alloc, &GIVES, &[])?;
-    let mut link = MemLink::new(gives, 100, Vec::new(alloc), Vec::new(alloc));
-    let mut note = MemSink::new(Vec::new(alloc), Vec::new(alloc));
-    let how = serve(&rt, alloc, &mut link, &mut note);
-    let is_told = are_words(link.bytes(), &TOOK) && note.bytes() == b"deny 1 1\n".as_slice();
-    assert!(rt; how == Some(Linked::Ended(End::Closed)) && is_told);
-    Ok(())
+fn rules_over_buses(rt: HostRuntime) {
+    let closed = Linked::Ended(End::Closed);
+    assert!(rt; goes(&rt, rt.alloc()) == Some((closed, true)));
 }

@@ -41,12 +41,18 @@ impl Tools for StillTools {
     }
 }
 
-/// Words as a program is given them.
-fn words_of(alloc: Global, words: &[&str]) -> Result<Vec<String>, AllocError> {
-    let mut all = Vec::new(alloc);
+/// Puts words behind others.
+fn add_words(alloc: Global, words: &[&str], all: &mut Vec<String>) -> Result<(), AllocError> {
     for word in words {
         all.push(String::from_str(alloc, word)?)?;
     }
+    Ok(())
+}
+
+/// Words as a program is given them.
+fn words_of(alloc: Global, words: &[&str]) -> Result<Vec<String>, AllocError> {
+    let mut all = Vec::new(alloc);
+    add_words(alloc, words, &mut all)?;
     Ok(all)
 }
 

@@ -4,10 +4,9 @@ use crate::word_tools::{link_of, reach_of};
 use std::alloc::{AllocError, Global};
 use vx_bus_traits::{Bus, Move, Stop};
 use vx_client::ClientErr;
+use vx_io_traits::Reach;
 use vx_memory::{MemLink, MemReach};
 use vx_upstream::{OpenErr, UpstreamBus};
-
-type Bench = UpstreamBus<MemReach<MemLink>>;
 
 /// The host `box`, which answers at port 9010 over a link that gives these words, and then those.
 pub(crate) fn box_of(
@@ -20,7 +19,7 @@ pub(crate) fn box_of(
 }
 
 /// What comes of a bus whose box is looked for at this port of that host.
-fn opened(alloc: Global, reach: MemReach<MemLink>, port: u16) -> Result<Bench, OpenErr> {
+fn opened<L: Reach + Drop>(alloc: Global, reach: L, port: u16) -> Result<UpstreamBus<L>, OpenErr> {
     match String::from_str(alloc, "box") {
         Ok(host) => UpstreamBus::open(alloc, reach, host, port, b"gpib0", 10),
         Err(_) => Err(OpenErr::NoMemory),
@@ -265,14 +264,19 @@ static ROWS: [Row; 23] = [
     ),
 ];
 
+/// Whether the bus of a box that is reached so answers as it should.
+fn answers_over<L: Reach + Drop>(alloc: Global, reach: L, acts: &[Act], bytes: &[u8]) -> bool {
+    match opened(alloc, reach, 9010) {
+        Ok(mut bus) => answers_all(&mut bus, acts, bytes),
+        Err(_) => false,
+    }
+}
+
 /// Whether a bus answers as a row says.
 fn comes_so(alloc: Global, row: &Row) -> Result<bool, AllocError> {
     let (gives, acts, bytes) = *row;
     let reach = box_of(alloc, REST, gives)?;
-    match opened(alloc, reach, 9010) {
-        Ok(mut bus) => Ok(answers_all(&mut bus, acts, bytes)),
-        Err(_) => Ok(false),
-    }
+    Ok(answers_over(alloc, reach, acts, bytes))
 }
 
 #[test]

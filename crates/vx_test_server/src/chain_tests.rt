@@ -10,6 +10,7 @@ use std::alloc::{AllocError, Global};
 use std::sync::Arc;
 use std::sync::atomic::Ordering;
 use vx_488::Addr;
+use vx_bus_traits::Bus;
 use vx_core::Core;
 use vx_io_traits::{Link, Reach, ReadOut};
 use vx_rack::Slow;
@@ -24,8 +25,6 @@ const PATIENCE: u32 = 3;
 
 type Far = BoxLink<SimBus<Slow>>;
 
-type Near = BoxLink<UpstreamBus<Far>>;
-
 /// A bus with an instrument at 5 that gives back what it is sent, and takes and gives at most a byte a millisecond. So a burst over the
 /// chain ends with each of its bytes.
 fn bench(alloc: Global) -> Option<SimBus<Slow>>
@@ -39,31 +38,44 @@ fn bench(alloc: Global) -> Option<SimBus<Slow>>
     }
 }
 
-/// A link to a gateway with that bus, of this conduct. Its records are counted here.
-fn far(alloc: Global, conduct: Conduct, sent: Count) -> Option<Far> {
-    let bus = bench(alloc)?;
+/// A link to a gateway over a bus, of this conduct. Its records are counted here.
+fn linked<B: Bus + Drop>(alloc: Global, bus: B, conduct: Conduct, sent: Count) -> Option<BoxLink<B>>
+    requires { B.means bus ≡ first_means }
+{
     match Core::start(alloc, bus, PORT) {
         Ok(core) => box_link(alloc, core, conduct, sent),
         Err(_) => None,
     }
 }
 
-/// A gateway whose bus is that of the one that this link leads to, at this host.
-fn chained(alloc: Global, link: Far, host: String) -> Option<Core<UpstreamBus<Far>>> {
+/// A link to a gateway with that bus.
+fn far(alloc: Global, conduct: Conduct, sent: Count) -> Option<Far> {
+    linked(alloc, bench(alloc)?, conduct, sent)
+}
+
+/// A link to a gateway whose bus is that of the one that a link leads to, at this host. So many milliseconds pass with each record.
+fn chained<L: Reach + Drop>(
+    alloc: Global,
+    link: L,
+    host: String,
+    pace: u64,
+    sent: Count,
+) -> Option<BoxLink<UpstreamBus<L>>> {
     match UpstreamBus::open(alloc, link, host, PORT, b"gpib0", PATIENCE) {
-        Ok(bus) => Core::start(alloc, bus, PORT).ok(),
+        Ok(bus) => linked(alloc, bus, Conduct { pace, ..CALM }, sent),
         Err(_) => None,
     }
 }
 
-/// A link to such a gateway. So many milliseconds pass with each record.
-fn near(alloc: Global, link: Far, pace: u64) -> Option<Near> {
+/// The same at a host of its own, where there is that link.
+fn near<L: Reach + Drop>(
+    alloc: Global,
+    link: Option<L>,
+    pace: u64,
+) -> Option<BoxLink<UpstreamBus<L>>> {
     let host = String::from_str(alloc, "far").ok()?;
     let sent = count_of(alloc)?;
-    match chained(alloc, link, host) {
-        Some(core) => box_link(alloc, core, Conduct { pace, ..CALM }, sent),
-        None => None,
-    }
+    chained(alloc, link?, host, pace, sent)
 }
 
 /// A call of the core channel: the number of its procedure, the words of its arguments, and how many words more are behind these, which
@@ -168,18 +180,26 @@ fn replies_over<L: Reach + Drop>(alloc: Global, link: L) -> Option<Vec<u8>> {
     replies(alloc, &mut link).ok()
 }
 
+/// The same where there is a link.
+fn replies_of<L: Reach + Drop>(alloc: Global, link: Option<L>) -> Option<Vec<u8>> {
+    replies_over(alloc, link?)
+}
+
+/// The same of a gateway with the bus of the one that a link leads to.
+fn replies_near<L: Reach + Drop>(alloc: Global, link: Option<L>) -> Option<Vec<u8>> {
+    replies_of(alloc, near(alloc, link, 0))
+}
+
 /// What a gateway with the bus answers.
 fn alone(alloc: Global) -> Option<Vec<u8>> {
     let sent = count_of(alloc)?;
-    let link = far(alloc, CALM, sent)?;
-    replies_over(alloc, link)
+    replies_of(alloc, far(alloc, CALM, sent))
 }
 
 /// What one with the other's bus answers.
 fn in_chain(alloc: Global) -> Option<Vec<u8>> {
     let sent = count_of(alloc)?;
-    let link = near(alloc, far(alloc, CALM, sent)?, 0)?;
-    replies_over(alloc, link)
+    replies_near(alloc, far(alloc, CALM, sent))
 }
 
 /// Whether both are the same, and are whole.
@@ -278,11 +298,15 @@ fn count_over<L: Reach + Drop>(alloc: Global, link: L) -> Option<Came> {
     count(alloc, &mut link).ok()
 }
 
-/// The same where the far box is of this conduct; none where there is no bus.
+/// The same of a gateway with the bus of the one that a link leads to; none where there is no bus.
+fn count_near<L: Reach + Drop>(alloc: Global, link: Option<L>) -> Option<Came> {
+    count_over(alloc, near(alloc, link, 1)?)
+}
+
+/// The same where the far box is of this conduct.
 fn broken(alloc: Global, conduct: Conduct) -> Option<Came> {
     let sent = count_of(alloc)?;
-    let link = near(alloc, far(alloc, conduct, sent)?, 1)?;
-    count_over(alloc, link)
+    count_near(alloc, far(alloc, conduct, sent))
 }
 
 /// Whether a bus isn't had whose connection breaks at the record of this number, at one of the four that open the bus; or whether calls
@@ -348,7 +372,12 @@ fn are_written_over<L: Reach + Drop>(alloc: Global, link: L, sent: &Count) -> Op
     are_written(alloc, &mut link, sent).ok()
 }
 
-/// The same, one each 300 milliseconds, where the connection breaks in the second and the next two reaches are refused.
+/// The same of a gateway with the bus of the one that a link leads to, one each 300 milliseconds.
+fn are_written_near<L: Reach + Drop>(alloc: Global, link: Option<L>, sent: &Count) -> Option<bool> {
+    are_written_over(alloc, near(alloc, link, 300)?, sent)
+}
+
+/// The same where the connection breaks in the second and the next two reaches are refused.
 fn away(alloc: Global) -> Option<bool> {
     let sent = count_of(alloc)?;
     let seen = Arc::try_clone(&sent).ok()?;
@@ -357,8 +386,7 @@ fn away(alloc: Global) -> Option<bool> {
         refuses: (2, 3),
         ..CALM
     };
-    let link = near(alloc, far(alloc, conduct, seen)?, 300)?;
-    are_written_over(alloc, link, &sent)
+    are_written_near(alloc, far(alloc, conduct, seen), &sent)
 }
 
 // A write is three commands and one byte, and each look at SRQ and NDAC another record. A try that brings the bus back is create_link, three
