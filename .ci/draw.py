@@ -258,6 +258,81 @@ def check_verdicts():
             raise Wrong(f"{words}: status {done.returncode}, {done.stderr[:80]}")
 
 
+def texts_of(picture, number):
+    return [[text.text for text in group.findall(SVG + "text")] for group in picture.of(number)]
+
+
+def check_part(trace, whole, has, goes_on, *words):
+    """With these words the lines are drawn that the part has, as in the whole picture, and no others."""
+    part = picture_of(trace, *words)
+    for number, line in enumerate(trace.split("\n")[1:-2], 2):
+        due = texts_of(whole, number) if has(line) else []
+        if texts_of(part, number) != due:
+            raise Wrong(f"{words}, line {number}: {texts_of(part, number)}, and not {due}")
+    last, = [g for g in part.groups if g.get("class") == "last"]
+    if ([text.text for text in last.iter(SVG + "text")] == ["the trace goes on"]) != goes_on:
+        raise Wrong(f"{words}: whether the trace goes on")
+    part.check_frame()
+    part.check_texts()
+
+
+def check_parts(trace):
+    """Parts from one of its moments on, up to one, and between two; and that of each connection."""
+    whole, lines = picture_of(trace), trace.split("\n")[1:-2]
+    moments = sorted({int(line.split(" ")[0]) for line in lines})
+    for first, last in {(moments[len(moments) * k // 4], moments[(len(moments) - 1) * (k + 2) // 4]) for k in (0, 1, 2)}:
+        before, behind = (lambda line: int(line.split(" ")[0]) <= last), (lambda line: first <= int(line.split(" ")[0]))
+        goes_on = last < moments[-1]
+        check_part(trace, whole, behind, False, "--from", str(first))
+        check_part(trace, whole, before, goes_on, "--to", str(last))
+        check_part(trace, whole, lambda line: before(line) and behind(line), goes_on, "--from", str(first), "--to", str(last))
+    conns = sorted({line.split(" ")[2] for line in lines if line.split(" ")[1] == "up"})
+    for conn in conns:
+        check_part(trace, whole, lambda line: line.split(" ")[1] != "srq" and line.split(" ")[2] == conn, False, "--connection", conn)
+
+
+def check_table(trace):
+    """The table has a line for each call, with its moment, its reply or none, and why it waited; and one for each end, dial and interrupt."""
+    done = drawn(trace, "--table")
+    rows = iter(done.stdout.decode().splitlines()[1:])
+    lines = [line.split(" ", 3) for line in trace.split("\n")[1:-2]]
+    for place, (moment, kind, conn, *rest) in enumerate(lines):
+        if kind in ("begin", "bus", "out", "wait") or kind == "irq" and rest[0] in ("none", "closed"):
+            continue
+        row, patterns = next(rows, ""), [rf"^ *{int(moment):,}  {'bus' if kind == 'srq' else f'client {conn}'} "]
+        if kind == "call":
+            asked = procedure(rest[0])
+            patterns += looked_for("call", rest[0], asked) + ended(lines[place + 1 :], conn, asked)
+        if any(not re.search(pattern, row) for pattern in patterns):
+            raise Wrong(f"line {place + 2}: {row!r} lacks one of {patterns}")
+    if done.returncode or next(rows, None) is not None:
+        raise Wrong(f"status {done.returncode}, or a row that no line has")
+
+
+def ended(later, conn, asked):
+    """What the table has to say of the end of a call of a connection, by the lines behind it."""
+    waits = []
+    for _, kind, whose, *rest in later:
+        if whose != conn or kind not in ("out", "wait", "gone"):
+            continue
+        if kind == "wait":
+            cause, _, whom = rest[0].partition(" ")
+            waits += [] if cause == "slice" else [re.escape(CAUSES[cause].format(whom).removesuffix(" is held"))]
+        else:
+            return waits + (looked_for("out", rest[0], asked) if kind == "out" else ["no reply"])
+    return waits + ["no reply yet"]
+
+
+def check_words():
+    """A part that isn't there and words that aren't known have a message."""
+    trace = (TOP / f"examples/{SHOWN}.trace").read_bytes()
+    for words in (["--from", "x"], ["--to", "-1"], ["--connection", "0"], ["--connection", "9"], ["--from", "31", "--to", "30"],
+                  ["--from", "32"], ["--table", "--connection", "9"], ["--colour"]):
+        done = drawn(trace, *words)
+        if done.returncode != 1 or done.stdout or not re.fullmatch(rb"draw: [^\n]+\n", done.stderr):
+            raise Wrong(f"{words}: status {done.returncode}, {done.stderr[:80]}")
+
+
 def check_addresses(picture, trace):
     """Each address of a device that a command names, where none has a secondary one, has its column."""
     for line in re.findall(r"^\d+ bus \d+ (.*)$", trace, re.M):
@@ -287,7 +362,10 @@ def main():
     cases = [(path.name, lambda path=path: check_trace(path.read_text())) for path in traces]
     cases.append(("a trace of all", lambda: check_trace(trace_of_all())))
     shown = (TOP / f"examples/{SHOWN}.trace").read_text()
-    cases += [("a trace that is refused", lambda: check_refused(shown)), ("verdicts", check_verdicts)]
+    whole = [*((path.name, path.read_text()) for path in traces), ("a trace of all", trace_of_all())]
+    cases += [(f"{name}, parts", lambda trace=trace: check_parts(trace)) for name, trace in whole]
+    cases += [(f"{name}, table", lambda trace=trace: check_table(trace)) for name, trace in whole]
+    cases += [("a trace that is refused", lambda: check_refused(shown)), ("verdicts", check_verdicts), ("words", check_words)]
     cases += [(name, lambda name=name: check_no_trace(name)) for name in NO_TRACES]
     cases.append(("docs/trace.svg", check_shown))
     failed = 0

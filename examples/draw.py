@@ -1,15 +1,23 @@
 #!/usr/bin/env python3
-"""Draws a trace of version 2 as a sequence diagram.
+"""Draws a trace of version 2 as a sequence diagram, or tells it as a table.
 
-    draw.py < TRACE > PICTURE.svg
-    draw.py line N CAUSE < TRACE > PICTURE.svg
+    draw.py [OPTIONS] < TRACE > PICTURE.svg
+    draw.py [OPTIONS] line N CAUSE < TRACE > PICTURE.svg
+    draw.py --table [OPTIONS] < TRACE
 
 With the words that `vxcheck` prints of a trace that it refuses, the trace is drawn up to that line, with the cause; its word `legal`
 changes nothing. The trace is what `vxplay run` prints of a script of version 2; `docs/SCRIPT.md` has its lines. There is a column
 for each connection, for the gateway, for the bus, and for each address that the bus is told; moments go downwards. Calls and replies
 are named as VXI-11 does, and the transfers of a poll are summed up: which bytes went to whom. Where the pointer rests on a row, a
 viewer of SVG shows the line of the trace. An input that is no such trace has a message on standard error, and status 1.
+
+    --from MOMENT, --to MOMENT   draw what lies between these two, both with it, in milliseconds
+    --connection N               draw the lines of this connection alone; it may be given several times
+    --table                      tell it in lines of text: the moment, who, what, and how it ended
+
+All of the trace is read for a part of it too: a part tells of the bus, of a turn and of a reply what it is in the whole.
 """
+import argparse
 import re
 import struct
 import sys
@@ -461,17 +469,44 @@ WAITS = {
 }
 
 
-class Rows:
-    """Makes the rows of a trace, line by line."""
+class Part:
+    """The part of a trace that is asked for: what lies between two moments, of all connections or of these."""
 
-    def __init__(self):
-        self.rows, self.asked, self.wire, self.roles, self.addresses = [], {}, Wire(), {}, set()
+    def __init__(self, since, until, connections):
+        self.since, self.until, self.connections = since, until, connections
+
+    def has(self, line):
+        is_in_time = (self.since or 0) <= line.moment and (self.until is None or line.moment <= self.until)
+        return is_in_time and (not self.connections or line.conn in self.connections)
+
+
+class Turn:
+    """A turn on the bus: where it began, and where it ended, with its reply or its connection, if it did."""
+
+    def __init__(self, line):
+        self.conn, self.begin, self.end = line.conn, line.number, None
+
+
+class Rows:
+    """Makes the rows of a part of a trace, line by line. What stands outside of the part has no row, but what it says of the bus, of
+    turns and of calls holds in the part."""
+
+    def __init__(self, part):
+        self.part, self.rows, self.asked, self.wire, self.roles, self.addresses = part, [], {}, Wire(), {}, set()
+        self.turns, self.open = [], {}
 
     def add(self, line):
         getattr(self, f"add_{line.kind}")(line)
+        if line.kind in ("out", "gone") and line.conn in self.open:
+            self.open.pop(line.conn).end = line.number
 
     def put(self, line, *parts, **named):
-        self.rows.append(Row(line, *parts, **named))
+        if self.part.has(line):
+            self.rows.append(Row(line, *parts, **named))
+
+    def conns(self):
+        """The connections that have a row, in their order."""
+        return sorted({row.line.conn for row in self.rows} - {None})
 
     def add_up(self, line):
         self.roles[line.conn] = line.rest
@@ -483,6 +518,8 @@ class Rows:
 
     def add_begin(self, line):
         self.put(line, "right", "begin", f"the turn of connection {line.conn} begins")
+        self.turns.append(Turn(line))
+        self.open[line.conn] = self.turns[-1]
 
     def add_bus(self, line):
         for act in acts_of(self.wire, line.rest.split()):
@@ -490,8 +527,12 @@ class Rows:
             ends = sorted(act.addresses, key=address_order) or ["bus"]
             arrow = (ends[-1], "gateway") if act.comes else ("gateway", ends[-1])
             self.put(line, "right", "bus", act.text, arrow, dots=ends[:-1])
-            self.addresses.update(act.addresses)
-        self.addresses.update(self.wire.others() + self.wire.other_talker())
+            self.add_addresses(line, act.addresses)
+        self.add_addresses(line, self.wire.others() + self.wire.other_talker())
+
+    def add_addresses(self, line, addresses):
+        if self.part.has(line):
+            self.addresses.update(addresses)
 
     def add_dial(self, line):
         self.put(line, "left", "dial", f"dial of the client: {'up' if line.rest == 'ok' else 'failed'}", ("gateway", line.conn))
@@ -530,6 +571,7 @@ COLOURS = {
     "bus": "#6b4a9c", "srq": "#a8326e", "irq": "#a8326e", "dial": "#a8326e",
 }
 INK, LINE, PAPER, SHADE = "#222222", "#b8bec8", "#ffffff", "#eef1f6"
+GOES_ON = "the trace goes on"  # stands below a part that isn't the last one
 
 
 def width_of(text, size=SIZE):
@@ -542,7 +584,8 @@ class Picture:
     """Where each column and row of a trace stands, and the picture of them."""
 
     def __init__(self, made, last):
-        self.rows, self.roles, self.last = made.rows, made.roles, last
+        self.rows, self.roles, self.last = made.rows, {conn: made.roles[conn] for conn in made.conns()}, last
+        self.turns = [turn for turn in made.turns if turn.conn in self.roles]
         self.addresses = sorted(made.addresses, key=address_order)
         self.gaps = {side: self.gap(side) for side in ("left", "right")}
         self.place_columns()
@@ -623,15 +666,12 @@ class Picture:
         return ("gateway", "VXI-11") if column == "gateway" else ("bus", "IEEE 488")
 
     def draw_turns(self, svg):
-        """A bar on the bus while a turn is under way: from its begin to its reply, or to the end of its connection."""
-        begun = {}
-        for row in self.rows:
-            if row.kind == "begin":
-                begun[row.line.conn] = self.y[row]
-            elif row.line.kind in ("out", "gone") and row.line.conn in begun:
-                self.draw_turn(svg, begun.pop(row.line.conn), self.y[row])
-        for top in begun.values():
-            self.draw_turn(svg, top, self.end)
+        """A bar on the bus while a turn is under way: from its begin to its reply, or to the end of its connection. One that begins above
+        the picture begins at its top, and one that ends below at its end."""
+        heights = {row.line.number: self.y[row] for row in self.rows}
+        for turn in self.turns:
+            if turn.begin <= max(heights) and (turn.end is None or min(heights) <= turn.end):
+                self.draw_turn(svg, heights.get(turn.begin, TOP - 4), heights.get(turn.end, self.end))
 
     def draw_turn(self, svg, top, end):
         box(svg, self.x["bus"] - 5, top - 6, 10, end - top + 6, "#e4daf2", COLOURS["bus"])
@@ -674,7 +714,7 @@ class Picture:
 
     def draw_last(self, svg):
         g = group(svg, "last", self.last)
-        colour = COLOURS["out"] if self.last == "done" else COLOURS["error"]
+        colour = {"done": COLOURS["out"], GOES_ON: COLOURS["up"]}.get(self.last, COLOURS["error"])
         stroke(g, MARGIN, self.end, self.width - MARGIN, self.end, LINE)
         words(g, self.x["gateway"], self.end + 24, self.last, colour, "middle", SIZE, "bold")
 
@@ -725,24 +765,155 @@ def words(parent, x, y, text, colour, anchor, size=SIZE, weight=None):
     ET.SubElement(parent, "text", place).text = text
 
 
-def main(verdict):
-    refused = REFUSED.fullmatch(" ".join(verdict))
-    if verdict and verdict != ["legal"] and not refused:
-        return "draw: the words are no verdict of vxcheck"
+# The table
+
+
+class Entry:
+    """A line of the table: its moment, who, what, and how it ended."""
+
+    def __init__(self, line, who, what, ended=""):
+        self.line, self.who, self.what, self.ended, self.waits = line, who, what, ended, []
+
+    def cells(self):
+        return [f"{self.line.moment:,}", self.who, self.what, "; ".join(filter(None, [self.ended, *self.waits]))]
+
+
+class Table:
+    """What each call of a trace asks for and how it ended, and what else came, each with its moment."""
+
+    def __init__(self, part):
+        self.part, self.entries, self.asked, self.open = part, [], {}, {}
+
+    def add(self, line):
+        tell = getattr(self, f"tell_{line.kind}", None)
+        if tell:
+            tell(line)
+
+    def put(self, line, what, ended=""):
+        self.entries.append(Entry(line, "bus" if line.conn is None else f"client {line.conn}", what, ended))
+        return self.entries[-1]
+
+    def end(self, line, how):
+        """The call of a connection that has one ended so."""
+        entry = self.open.pop(line.conn, None)
+        if entry:
+            passed = line.moment - entry.line.moment
+            entry.ended = how + (f", {passed:,} ms later" if passed else "")
+
+    def tell_up(self, line):
+        self.put(line, f"{line.rest} channel: connects")
+
+    def tell_call(self, line):
+        self.asked[line.conn], text = call_of(bytes.fromhex(line.rest))
+        self.open[line.conn] = self.put(line, text, "no reply yet")
+
+    def tell_wait(self, line):
+        why, _, whom = line.rest.partition(" ")
+        told = WAITED.get(why, "").format(whom)
+        if line.conn in self.open and told and told not in self.open[line.conn].waits:
+            self.open[line.conn].waits.append(told)
+
+    def tell_out(self, line):
+        self.end(line, reply_of(self.asked[line.conn], bytes.fromhex(line.rest))[1])
+
+    def tell_gone(self, line):
+        self.end(line, "no reply")
+        self.put(line, {"down": "is down", "junk": "ends: no call", "long": "ends: a record too long"}[line.rest])
+
+    def tell_srq(self, line):
+        self.put(line, f"SRQ line: {'on' if line.rest == '1' else 'off'}")
+
+    def tell_dial(self, line):
+        self.put(line, "dial of the client", "up" if line.rest == "ok" else "failed")
+
+    def tell_irq(self, line):
+        if line.rest not in ("none", "closed"):
+            self.put(line, call_of(bytes.fromhex(line.rest)[4:])[1])
+
+    def text(self):
+        """The entries of the part, below a heading, in columns."""
+        cells = [entry.cells() for entry in self.entries if self.part.has(entry.line)]
+        if not cells:
+            raise Fault("nothing of the trace lies in this part")
+        cells.insert(0, ["ms", "who", "what", "how it ended"])
+        moment, who, what = (max(len(row[place]) for row in cells) for place in range(3))
+        return "".join(f"{row[0]:>{moment}}  {row[1]:<{who}}  {row[2]:<{what}}  {row[3]}".rstrip() + "\n" for row in cells)
+
+
+WAITED = {
+    "lock": "waited for the lock of link {}", "behind": "waited behind the call of connection {}",
+    "turn": "waited for the turn of connection {}", "held": "waited for the bus", "dial": "waited for a dial",
+}
+
+
+def picture_text(part, lines, last):
+    """The picture of a part of these lines."""
+    made = Rows(part)
+    for line in lines:
+        made.add(line)
+    if not made.rows and (lines or part.since or part.until is not None or part.connections):
+        raise Fault("nothing of the trace lies in this part")
+    is_last = not lines or part.until is None or lines[-1].moment <= part.until
+    svg = Picture(made, last if is_last else GOES_ON).drawn()
+    ET.indent(svg)
+    return ET.tostring(svg, encoding="unicode") + "\n"
+
+
+def table_text(part, lines):
+    table = Table(part)
+    for line in lines:
+        table.add(line)
+    return table.text()
+
+
+class Words(argparse.ArgumentParser):
+    """The words behind the program's name."""
+
+    def __init__(self):
+        super().__init__(prog="draw", description="Draws a trace of version 2 of standard input as SVG, or tells it as a table.")
+        self.add_argument("--from", dest="since", type=moment_of, metavar="MOMENT", help="leave out what was before, in milliseconds")
+        self.add_argument("--to", dest="until", type=moment_of, metavar="MOMENT", help="leave out what came later, in milliseconds")
+        self.add_argument("--connection", dest="connections", type=conn_of, action="append", default=[], metavar="N",
+                          help="draw the lines of this connection alone; several times for several")
+        self.add_argument("--table", action="store_true", help="tell it in lines of text, in place of a picture")
+        self.add_argument("verdict", nargs="*", metavar="VERDICT", help="what vxcheck prints of the trace")
+
+    def error(self, message):
+        raise Fault(message)
+
+
+def moment_of(word):
+    if not re.fullmatch(NUMBER, word):
+        raise argparse.ArgumentTypeError(f"{word!r} is no moment in milliseconds")
+    return int(word)
+
+
+def conn_of(word):
+    if not re.fullmatch(CONN, word):
+        raise argparse.ArgumentTypeError(f"{word!r} is no number of a connection")
+    return int(word)
+
+
+def told_of(words):
+    """What the words ask to be told of the trace on standard input."""
+    asked = Words().parse_args(words)
+    refused = REFUSED.fullmatch(" ".join(asked.verdict))
+    if asked.verdict and asked.verdict != ["legal"] and not refused:
+        raise Fault("the words are no verdict of vxcheck")
+    # what stands behind a refused line may be anything
+    text = sys.stdin.buffer.read().decode("ascii", "replace" if refused else "strict")
+    lines, last = read_refused(text, int(refused[1]), refused[2]) if refused else read_trace(text)
+    part = Part(asked.since, asked.until, asked.connections)
+    return table_text(part, lines) if asked.table else picture_text(part, lines, last)
+
+
+def main(words):
     try:
-        # what stands behind a refused line may be anything
-        text = sys.stdin.buffer.read().decode("ascii", "replace" if refused else "strict")
-        lines, last = read_refused(text, int(refused[1]), refused[2]) if refused else read_trace(text)
-        made = Rows()
-        for line in lines:
-            made.add(line)
+        sys.stdout.write(told_of(words))
     except UnicodeDecodeError:
         return "draw: the input isn't ASCII"
     except Fault as why:
         return f"draw: {why}"
-    svg = Picture(made, last).drawn()
-    ET.indent(svg)
-    sys.stdout.write(ET.tostring(svg, encoding="unicode") + "\n")
     return 0
 
 
