@@ -4,13 +4,15 @@
     lab.py
 
 A session is a block of a page with lines `$ COMMAND`, each with what it prints behind it. All of that has to be printed, with the
-ports of the page (9010 and 9011) in place of those that were free here. A block that starts a server is one window, and the block
-behind it another one, with its clients; the server then ends by itself. Clients without a server get one of `examples/bench.txt`.
-`cat FILE` shows a file that a server reads. Besides, the words of `bash` of docs/LAB.md have to end a read. What differs, and at last
-'N passed, M failed', goes to standard error; the status is 1 where something differs.
+ports of the page (9010 and 9011) in place of those that were free here; in a line of the log the moment and the peer's port may be
+others. A block that starts a server is one window, and the block behind it another one, with its clients; the server then ends by
+itself. Clients without a server get one of `examples/bench.txt`. `cat FILE` shows a file that a server reads. Besides, the words of
+`bash` of docs/LAB.md have to end a read. What differs, and at last 'N passed, M failed', goes to standard error; the status is 1 where
+something differs.
 """
 import os
 import pathlib
+import re
 import select
 import shlex
 import subprocess
@@ -23,6 +25,7 @@ TOP = pathlib.Path(__file__).resolve().parent.parent
 PAGES = ("README.md", "docs/SCRIPT.md", "docs/LAB.md")
 PROGRAMS = ("vxplay", "vxcheck", "vxgate", "vxcall", "vxbuses", "vxguard")
 CORE, ABORT = "9010", "9011"  # the ports that the pages have
+LOGGED = re.compile(r"^[0-9]+( (?:core|abort) [0-9]+ [0-9.]+:)[0-9]+ ")
 COMMAND_SECONDS = 1800  # `make try` builds the player
 WITH_PROGRAMS = {**os.environ, "PATH": os.pathsep.join([*(str(TOP / f"crates/{name}/out") for name in PROGRAMS), os.environ["PATH"]])}
 
@@ -72,6 +75,11 @@ def expect_printed(command, lines, ports=()):
     assert printed == due, f"{command} printed {printed!r}"
 
 
+def steady(line):
+    """A line of the log but for its moment and its peer's port."""
+    return LOGGED.sub(r"MOMENT\1PORT ", line)
+
+
 class Server(Program):
     """The server of a command of a page, with what it prints on standard output and standard error as one text."""
 
@@ -90,8 +98,8 @@ class Server(Program):
         """Where it has a log, its lines up to the next end of a connection."""
         is_ended = not self.is_told
         while not is_ended:
-            due = self.lines.pop(0)
-            self.expect_line(due)
+            due, line = self.lines.pop(0), self.next_line()
+            assert steady(line) == steady(due), f"it printed {line!r}"
             is_ended = " ended: " in due
 
 

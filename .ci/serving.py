@@ -112,12 +112,17 @@ class Program:
         else:
             self.expect_sockets()
 
-    def expect_line(self, due):
-        """The next line that it prints comes, and is this one."""
+    def next_line(self):
+        """The next line that it prints, which comes."""
         assert select.select([self.process.stdout], [], [], PATIENCE)[0], "it prints nothing"
         line = self.process.stdout.readline().decode()
         if not line:
             raise self.refusal()
+        return line
+
+    def expect_line(self, due):
+        """The next line that it prints comes, and is this one."""
+        line = self.next_line()
         assert line == due, f"it printed {line!r}"
 
     def expect_sockets(self):

@@ -8,8 +8,15 @@ from sockets.calls import call, create, created, reply
 from sockets.server import Server
 
 
+def called(channel, number, peer):
+    """What the log calls a connection of this peer."""
+    host, port = peer.stream.getsockname()
+    return f"{channel} {number} {host}:{port}"
+
+
 def a_log_of_ends():
-    """Junk, a record that is too long, a stream cut within a record, a reset, and an abort connection, each with its reason."""
+    """Junk, a record that is too long, a stream cut within a record, a reset, and an abort connection from another address, each with its
+    reason."""
     ends = [
         (rpc.record(rpc.words(1, 0)), "a record is no call, 1 calls"),
         (rpc.words(LAST | RECORD_MAX + 1), "a record is too long, 1 calls"),
@@ -25,21 +32,24 @@ def a_log_of_ends():
 
         for number, (data, end) in enumerate(ends, 1):
             with Peer(server.core) as peer:
-                logs(f"core {number} came")
+                its = called("core", number, peer)
+                logs(f"{its} came")
                 peer.ask(call(1, 0), reply(1))
                 peer.send(data)
                 peer.stream.shutdown(socket.SHUT_WR)
-                logs(f"core {number} ended: {end}")
+                logs(f"{its} ended: {end}")
         peer = Peer(server.core)
-        logs("core 5 came")
+        its = called("core", 5, peer)
+        logs(f"{its} came")
         peer.ask(call(1, 0), reply(1))
         peer.reset()
-        logs("core 5 ended: receiving failed, 1 calls")
-        with Peer(server.abort) as peer:
-            logs("abort 1 came")
+        logs(f"{its} ended: receiving failed, 1 calls")
+        with Peer(server.abort, address="127.0.0.3") as peer:
+            its = called("abort", 1, peer)
+            logs(f"{its} came")
             for xid in range(3):
                 peer.ask(call(xid, DEVICE_ABORT, 1, program=ABORT), reply(xid, 4))
-        logs("abort 1 ended: closed by its peer, 3 calls")
+        logs(f"{its} ended: closed by its peer, 3 calls")
 
 
 def a_lost_socket_is_told():

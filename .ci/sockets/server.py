@@ -11,7 +11,7 @@ import time
 from contextlib import ExitStack
 
 import serving
-from rpc import ABORT, CORE, PATIENCE, Peer
+from rpc import ABORT, CORE, HOST, PATIENCE, Peer
 from serving import sockets_at
 from sockets.calls import call, reply
 
@@ -22,6 +22,9 @@ plug 9 asker
 plug 11 meter
 inst 15 {"rules":[{"in":"*IDN?","out":"ACME,TABLE,1,1.0\\n"}]}
 """
+
+# a line of the log: its moment, its connection with the peer of that, and what is told
+LOGGED = re.compile(r"(0|[1-9][0-9]*) ((?:core|abort) [1-9][0-9]* [0-9.]+:[0-9]+) ((?:came|ended|refused)\b.*)")
 
 PIDFD_GETFD = 438  # the system call
 
@@ -50,7 +53,7 @@ class Server(serving.Server):
         self.keeps_errors, self.errors = keeps_errors, None
 
     def start(self, core, abort):
-        self.core, self.abort = core, abort
+        self.core, self.abort, self.began = core, abort, now()
         if self.keeps_errors:
             self.errors = self.how["stderr"] = tempfile.TemporaryFile()
         process = super().start(core, abort)
@@ -67,11 +70,20 @@ class Server(serving.Server):
         return os.pread(self.errors.fileno(), 1 << 20, 0).decode().split("\n")
 
     def expect_log(self, *due):
-        """It comes to have these lines on standard error, and no others."""
+        """It comes to have these lines on standard error, each behind its moment, and no others. The moments are those of this host's
+        clock, and of one connection none is before an earlier one."""
         until = time.monotonic() + PATIENCE
         while len(self.told()) <= len(due) and time.monotonic() < until:
             time.sleep(0.02)
-        assert self.told() == [*due, ""], f"{self.told()} was told, due is {due}"
+        *told, rest = self.told()
+        lines = [LOGGED.fullmatch(line) for line in told]
+        assert all(lines) and not rest, f"{told} and {rest!r} was told"
+        assert [f"{line[2]} {line[3]}" for line in lines] == [*due], f"{told} was told, due is {due}"
+        last = {}
+        for line in lines:
+            moment = int(line[1])
+            assert last.get(line[2], self.began) <= moment <= now(), f"{line[0]!r} isn't of its moment"
+            last[line[2]] = moment
 
     def expect_told(self, pattern, due):
         """It comes to have so many lines of this kind on standard error."""
@@ -114,6 +126,16 @@ class Server(serving.Server):
             with ExitStack() as peers:
                 for _ in range(number):
                     peers.enter_context(Peer(port)).ask(call(1, 0, program=program), reply(1))
+
+
+def now():
+    """The moment of this host's clock, in milliseconds."""
+    return time.monotonic_ns() // 1_000_000
+
+
+def logged(channel, number, news):
+    """The lines of the log that tell this of a connection from this host, as a pattern."""
+    return rf"[0-9]+ {channel} {number} {re.escape(HOST)}:[0-9]+ {news}"
 
 
 def limit_memory(process, is_held):

@@ -5,7 +5,7 @@ from contextlib import ExitStack
 import rpc
 from rpc import ABORT, CORE, DESTROY_LINK, Peer
 from sockets.calls import call, create, created, reply
-from sockets.server import Server, limit_memory, memory_is_refused
+from sockets.server import Server, limit_memory, logged, memory_is_refused
 
 # so that a thread that is refused memory of its own heap finds none in another
 ONE_HEAP = {"MALLOC_ARENA_MAX": "1"}
@@ -37,12 +37,12 @@ def the_sixty_fifth_waits():
             peer.ask(call(1, 0, program=ABORT), reply(1))
         late = peers.enter_context(Peer(server.abort))
         late.send(call(1, 0, program=ABORT))
-        server.expect_told("abort 65 came", 1)
+        server.expect_told(logged("abort", 65, "came"), 1)
         assert not late.hears(3), "more connections are served than there are workers"
         early[0].stream.close()
         late.expect(reply(1))
-        server.expect_told("abort 1 ended: closed by its peer, 1 calls", 1)
-        server.expect_told("abort .* refused.*", 0)
+        server.expect_told(logged("abort", 1, "ended: closed by its peer, 1 calls"), 1)
+        server.expect_told(logged("abort", ".*", "refused.*"), 0)
 
 
 def a_peer_that_stays_holds_no_worker():
@@ -89,7 +89,7 @@ def a_refused_connection_ends_its_link(role, program):
         served = [peer for peer in peers if peer.is_answered(program)]
         limit_memory(server.process, False)
         assert len(served) < 64, "no connection wanted memory"
-        server.expect_told(f"{role} [0-9]+ refused: no memory", 64 - len(served))
+        server.expect_told(logged(role, "[0-9]+", "refused: no memory"), 64 - len(served))
         more = [Peer(port) for _ in range(64 - len(served))]
         assert all(peer.is_answered(program) for peer in more), "a link isn't served where there is memory"
         with Peer(port) as late:

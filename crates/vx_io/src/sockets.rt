@@ -219,13 +219,22 @@ impl Link for TcpLink {
     }
 }
 
+impl TcpLink {
+    /// Where the stream's other end is, as the system tells it: its IPv4 address as a number, its first part in the high byte, and its
+    /// port. Both are 0 where it tells none, and the address is 0 where it is of another kind.
+    pub fn peer_place(&self) -> (u32, u16) {
+        match self.stream.peer_addr() {
+            Ok(address) => (number_of(&address), address.port()),
+            Err(_) => (0, 0),
+        }
+    }
+}
+
 impl Peered for TcpLink {
     /// The address that the system tells of the stream's other end.
     fn peer(&self) -> u32 {
-        match self.stream.peer_addr() {
-            Ok(address) => number_of(&address),
-            Err(_) => 0,
-        }
+        let (host, _) = self.peer_place();
+        host
     }
 }
 

@@ -24,7 +24,9 @@ use vx_script::Cause;
 use vx_serve::{Ended, Host, ServeBus, serve_bus};
 use vx_session::{Tally, Tools};
 use vx_setup::BenchStop;
-use vx_startup::{Asked, BENCH_MAX, Logs, Options, ServerStatus, end_bench, put_last, read_words};
+use vx_startup::{
+    Asked, BENCH_MAX, Logs, Options, Placed, ServerStatus, end_bench, put_last, read_words,
+};
 use vx_text::{Input, read_all};
 use vx_upstream::UpstreamBus;
 
@@ -145,7 +147,7 @@ fn serve_words<
 ) -> Ended
 where
     N::Port: Drop,
-    <N::Port as Listen>::Peer: Drop,
+    <N::Port as Listen>::Peer: Placed + Drop,
     <X::S as Streams>::Peer: Drop,
     ensures ends { RelayEnds (words_of L.Link L.refused L.tries) link (map string_bytes words.now) (source_shown S.Source bench.old) (source_shown S.Source bench.new)
         (record { ports = ports_shown N.Net K.Sink host.old.net.now host.old.sink.now; refused = W.faults host.old.spawner.now })
@@ -199,7 +201,7 @@ pub fn relay_run<
 ) -> (u8, Tally)
 where
     N::Port: Drop,
-    <N::Port as Listen>::Peer: Drop,
+    <N::Port as Listen>::Peer: Placed + Drop,
     <X::S as Streams>::Peer: Drop,
     ensures outcome { RelayEndsSo (words_of L.Link L.refused L.tries) link (map string_bytes words.now) (source_shown S.Source bench.old) (source_shown S.Source bench.new)
         (record { ports = record { net = net_shown N.Net net.old; sink = sink_shown K.Sink sink.old }; refused = W.faults spawner.old })

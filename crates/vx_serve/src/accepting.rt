@@ -7,7 +7,7 @@ use crate::workers::{Attend, Peer, hand_on};
 use crossbeam_channel::Sender;
 use std::sync::Wait;
 use vx_io_traits::{Accepted, Net};
-use vx_startup::next_link;
+use vx_startup::{Placed, next_link};
 use vx_stream::CountingLink;
 
 /// Takes the links of the net's own port and hands them on, up to the limit, where that isn't 0, or until no more come, and
@@ -20,7 +20,7 @@ pub(crate) fn accept_links<R: Wait, N: Net, V: Attend<CountingLink<Peer<N>>> + D
     worker: V,
 ) -> Option<u64>
 where
-    Peer<N>: Drop,
+    Peer<N>: Placed + Drop,
     requires open { N.is_open net.old ≡ true }
     ensures took { MatchOption result (Rose (N.faults net.old) (N.faults net.new))
         (λ number. TookLinks limit (net_shown N.Net net.old) (net_shown N.Net net.new) number) }

@@ -10,5 +10,5 @@ mod starting;
 mod workers;
 
 pub use server::{Ended, Host, serve_bus, serve_run};
-pub use vx_startup::{BENCH_MAX, Logs, ServerStatus};
+pub use vx_startup::{BENCH_MAX, Logs, Place, Placed, ServerStatus};
 pub use workers::{Serve, ServeBus};

@@ -10,7 +10,7 @@ use std::sync::Arc;
 use vx_calls::ROLE_MAX;
 use vx_io_traits::{Net, Streams};
 use vx_session::{Room, Tools};
-use vx_startup::{Logs, Options};
+use vx_startup::{Journal, Logs, Options};
 use vx_stream::CountingLink;
 
 /// How many links wait for a worker, at most.
@@ -39,6 +39,14 @@ fn room(alloc: Global) -> Result<Room, AllocError> {
     }
 }
 
+/// The log of one worker, with a clock of its own.
+fn journal<X: Tools + Logs>(tools: &mut X) -> Journal<X::C, X::L> {
+    Journal {
+        clock: tools.clock(),
+        sink: tools.log(),
+    }
+}
+
 /// What serves one core link at a time.
 fn core_kit<X: Tools + Logs>(
     alloc: Global,
@@ -52,17 +60,20 @@ fn core_kit<X: Tools + Logs>(
         pause: tools.pause(),
         dial: tools.dial(),
         room,
-        log: tools.log(),
+        journal: journal(tools),
         served,
     })
 }
 
 /// What serves one abort link at a time.
-fn abort_kit<X: Logs>(alloc: Global, tools: &mut X) -> Result<AbortKit<X::L>, AllocError> {
+fn abort_kit<X: Tools + Logs>(
+    alloc: Global,
+    tools: &mut X,
+) -> Result<AbortKit<X::C, X::L>, AllocError> {
     let room = room(alloc)?;
     Ok(AbortKit {
         room,
-        log: tools.log(),
+        journal: journal(tools),
     })
 }
 

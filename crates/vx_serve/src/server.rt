@@ -22,7 +22,7 @@ use vx_inst::Instrument;
 use vx_io_traits::{Net, Sink, Source, Spawner, Streams};
 use vx_rack::Spare;
 use vx_session::{Tally, Tools};
-use vx_startup::{Logs, Options, ServerStatus, announce, open_ports, prepare, tell_served};
+use vx_startup::{Logs, Options, Placed, ServerStatus, announce, open_ports, prepare, tell_served};
 use vx_stream::CountingLink;
 
 /// How a run of a server ended, and the links that it served.
@@ -66,7 +66,7 @@ fn serve_announced<R: Wait, N: Net, V: Attend<CountingLink<Peer<N>>> + Drop, K: 
     sink: &mut K,
 ) -> Ended
 where
-    Peer<N>: Drop,
+    Peer<N>: Placed + Drop,
     requires open { N.is_open net.old ≡ true }
     ensures { LinksServed limit
         (ports_shown N.Net K.Sink net.old sink.old)
@@ -92,7 +92,7 @@ fn serve_links<R: Wait, N: Net, V: Attend<CountingLink<Peer<N>>> + Drop, K: Sink
     sink: &mut K,
 ) -> Ended
 where
-    Peer<N>: Drop,
+    Peer<N>: Placed + Drop,
     requires open { N.is_open net.old ≡ true }
     ensures { LinksEnd options
         (ports_shown N.Net K.Sink net.old sink.old)
@@ -114,7 +114,7 @@ fn serve_accepting<R: Wait, N: Net, V: Attend<CountingLink<Peer<N>>> + Drop, K: 
     sink: &mut K,
 ) -> Ended
 where
-    Peer<N>: Drop,
+    Peer<N>: Placed + Drop,
     requires open { N.is_open net.old ≡ true }
     ensures { LinksEnd options
         (ports_shown N.Net K.Sink net.old sink.old)
@@ -148,7 +148,7 @@ fn serve_open<
 ) -> Ended
 where
     N::Port: Drop,
-    Peer<N>: Drop,
+    Peer<N>: Placed + Drop,
     <X::S as Streams>::Peer: Drop,
     requires range { IsServerInRange options }
     requires open { N.is_open host.old.net.now ≡ true }
@@ -183,7 +183,7 @@ fn serve_gate<
 ) -> Ended
 where
     N::Port: Drop,
-    Peer<N>: Drop,
+    Peer<N>: Placed + Drop,
     <X::S as Streams>::Peer: Drop,
     requires range { IsServerInRange options }
     requires open { N.is_open host.old.net.now ≡ true }
@@ -213,7 +213,7 @@ pub fn serve_bus<
 >(host: &mut Host<'_, '_, '_, '_, '_, R, N, W, X, K>, options: Options, bus: B) -> Ended
 where
     N::Port: Drop,
-    Peer<N>: Drop,
+    Peer<N>: Placed + Drop,
     <X::S as Streams>::Peer: Drop,
     requires range { IsServerInRange options }
     requires fresh { B.means bus ≡ first_means }
@@ -248,7 +248,7 @@ fn serve_words<
 ) -> Ended
 where
     N::Port: Drop,
-    Peer<N>: Drop,
+    Peer<N>: Placed + Drop,
     <X::S as Streams>::Peer: Drop,
     ensures ends { ServerEnds (map string_bytes words.now) (map (spare_shown (handed_in (λ i. I.behaves i) (λ i. I.nature i))) rack.items) (source_shown S.Source bench.old) (source_shown S.Source bench.new)
         (record { ports = ports_shown N.Net K.Sink host.old.net.now host.old.sink.now; refused = W.faults host.old.spawner.now })
@@ -304,7 +304,7 @@ pub fn serve_run<
 ) -> (u8, Tally)
 where
     N::Port: Drop,
-    Peer<N>: Drop,
+    Peer<N>: Placed + Drop,
     <X::S as Streams>::Peer: Drop,
     ensures outcome { ServerEndsSo (map string_bytes words.now) (map (spare_shown (handed_in (λ i. I.behaves i) (λ i. I.nature i))) rack.items) (source_shown S.Source bench.old) (source_shown S.Source bench.new)
         (record { ports = record { net = net_shown N.Net net.old; sink = sink_shown K.Sink sink.old }; refused = W.faults spawner.old })

@@ -14,25 +14,26 @@ use vx_bus_traits::Bus;
 use vx_io_traits::{Accepted, Clock, Dial, Handed, Link, Listen, Net, Pause, Sink, Streams, Work};
 use vx_session::{End, Linked, Room, Tools};
 use vx_sim::SimBus;
-use vx_startup::{Channel, Logs, News, Reason, tell};
+use vx_startup::{Channel, Journal, Logs, News, Place, Placed, Reason};
 use vx_stream::CountingLink;
 
-/// What one core link wants besides itself, the log that it is told in, and where it is counted.
+/// What one core link wants besides itself, the log that it is told in, and where it is counted. The log has a clock of its own: what is
+/// claimed of a session's turns says for what theirs was called.
 #[derive(Drop)]
 pub struct CoreKit<C: Clock, P: Pause, D: Dial, G: Sink> {
     pub clock: C,
     pub pause: P,
     pub dial: D,
     pub room: Room,
-    pub log: G,
+    pub journal: Journal<C, G>,
     pub served: Arc<Served, Global>,
 }
 
 /// What one abort link wants besides itself, and the log that it is told in.
 #[derive(Drop)]
-pub struct AbortKit<G: Sink> {
+pub struct AbortKit<C: Clock, G: Sink> {
     pub room: Room,
-    pub log: G,
+    pub journal: Journal<C, G>,
 }
 
 /// So many pauses, one after the other.
@@ -83,8 +84,8 @@ pub trait Attend<L>: Sized {
     // What serving a link does, which is gone then.
     ghost attends: { Self → L → Self → Type 0 };
 
-    /// Tells of a link in the log.
-    fn tell(&mut self, number: u64, news: News);
+    /// Tells of the link of this number, whose peer is here, in the log.
+    fn tell(&mut self, number: u64, place: Place, news: News);
 
     /// Serves a link, and tells how it went.
     fn attend<R: Wait>(self, rt: &R, link: L) -> Self
@@ -98,19 +99,25 @@ pub struct CoreWorker<A, C: Clock, P: Pause, D: Dial, G: Sink> {
     pub kit: CoreKit<C, P, D, G>,
 }
 
-impl<A: LinkAccess<CountingLink<L>>, L: Link + Drop, C: Clock, P: Pause, D: Dial, G: Sink> Attend<
-    CountingLink<L>,
-> for CoreWorker<A, C, P, D, G> {
+impl<
+    A: LinkAccess<CountingLink<L>>,
+    L: Link + Placed + Drop,
+    C: Clock,
+    P: Pause,
+    D: Dial,
+    G: Sink,
+> Attend<CountingLink<L>> for CoreWorker<A, C, P, D, G> {
     ghost attends = { λ w link w'. ServesCore A.serves C.tells C.told (core_worker D.Dial w.access w.kit.clock w.kit.dial) link (core_worker D.Dial w'.access w'.kit.clock w'.kit.dial) };
 
-    fn tell(&mut self, number: u64, news: News) {
-        let _ = tell(&mut self.kit.log, Channel::Core, number, news);
+    fn tell(&mut self, number: u64, place: Place, news: News) {
+        let _ = self.kit.journal.tell(Channel::Core, number, place, news);
     }
 
     /// Serves a core link, tells how it went, and counts it.
     fn attend<R: Wait>(self, rt: &R, link: CountingLink<L>) -> CoreWorker<A, C, P, D, G> {
         let CoreWorker { access, mut kit } = self;
         let number = link.number();
+        let place = link.link().place();
         let (access, done) = access.core_link(
             rt,
             link,
@@ -120,7 +127,7 @@ impl<A: LinkAccess<CountingLink<L>>, L: Link + Drop, C: Clock, P: Pause, D: Dial
             &mut kit.room,
         );
         let news = news_of(*done.how(), done.link().answered());
-        let _ = tell(&mut kit.log, Channel::Core, number, news);
+        let _ = kit.journal.tell(Channel::Core, number, place, news);
         kit.served.add(rt, done);
         CoreWorker { access, kit }
     }
@@ -128,26 +135,29 @@ impl<A: LinkAccess<CountingLink<L>>, L: Link + Drop, C: Clock, P: Pause, D: Dial
 
 /// What serves abort links: its access, and what it wants besides.
 #[derive(Drop)]
-pub struct AbortWorker<A, G: Sink> {
+pub struct AbortWorker<A, C: Clock, G: Sink> {
     pub access: A,
-    pub kit: AbortKit<G>,
+    pub kit: AbortKit<C, G>,
 }
 
-impl<A: LinkAccess<CountingLink<L>>, L: Link + Drop, G: Sink> Attend<CountingLink<L>>
-    for AbortWorker<A, G> {
+impl<A: LinkAccess<CountingLink<L>>, L: Link + Placed + Drop, C: Clock, G: Sink> Attend<
+    CountingLink<L>,
+> for AbortWorker<A, C, G> {
     ghost attends = { λ w link w'. ServesAbort A.serves w.access link w'.access };
 
-    fn tell(&mut self, number: u64, news: News) {
-        let _ = tell(&mut self.kit.log, Channel::Abort, number, news);
+    fn tell(&mut self, number: u64, place: Place, news: News) {
+        let _ = self.kit.journal.tell(Channel::Abort, number, place, news);
     }
 
     /// Serves an abort link, which is closed then, and tells how it went.
-    fn attend<R: Wait>(self, rt: &R, link: CountingLink<L>) -> AbortWorker<A, G> {
+    fn attend<R: Wait>(self, rt: &R, link: CountingLink<L>) -> AbortWorker<A, C, G> {
         let AbortWorker { access, mut kit } = self;
         let mut link = link;
+        let number = link.number();
+        let place = link.link().place();
         let (access, how) = access.abort_link(rt, &mut link, &mut kit.room);
         let news = news_of(how, link.answered());
-        let _ = tell(&mut kit.log, Channel::Abort, link.number(), news);
+        let _ = kit.journal.tell(Channel::Abort, number, place, news);
         AbortWorker { access, kit }
     }
 }
@@ -168,14 +178,14 @@ fn serve_each<R: Wait, L: Drop, V: Attend<L>>(rt: &R, worker: V, links: &Receive
 
 /// Tells that a link came, and hands it to the workers. It waits where 64 links wait for one, and serves a link that comes back
 /// itself.
-pub fn hand_on<R: Wait, L: Link + Drop, V: Attend<CountingLink<L>>>(
+pub fn hand_on<R: Wait, L: Link + Placed + Drop, V: Attend<CountingLink<L>>>(
     rt: &R,
     links: &Sender<CountingLink<L>>,
     worker: V,
     link: CountingLink<L>,
 ) -> V {
     let mut worker = worker;
-    worker.tell(link.number(), News::Came);
+    worker.tell(link.number(), link.link().place(), News::Came);
     match links.send(rt, link) {
         Ok(()) => worker,
         Err(back) => worker.attend(rt, back.into_inner()),
@@ -201,7 +211,7 @@ where
     /// It serves abort links.
     Abort {
         links: Receiver<CountingLink<Peer<N>>>,
-        kit: AbortKit<X::L>,
+        kit: AbortKit<X::C, X::L>,
     },
     /// It writes the interrupts of channels to the streams that dials hand over. Interrupts come at samples alone, so it looks
     /// for one as seldom as the sampler looks at the SRQ line.
@@ -213,7 +223,7 @@ where
     Accept {
         port: N::Port,
         links: Sender<CountingLink<Peer<N>>>,
-        kit: AbortKit<X::L>,
+        kit: AbortKit<X::C, X::L>,
     },
     /// It looks at the SRQ line, and then pauses, until the server ends.
     Sample {
@@ -226,7 +236,7 @@ where
 impl<N: Net, X: Tools + Logs> Duty<N, X>
 where
     N::Port: Drop,
-    Peer<N>: Drop,
+    Peer<N>: Placed + Drop,
     <X::S as Streams>::Peer: Drop,
 {
     /// Does it, by this access.
@@ -271,7 +281,7 @@ pub type Serve<N, X, I> = ServeBus<N, X, SimBus<I>>;
 impl<N: Net, X: Tools + Logs, B: Bus + Drop> Job<GateAccess<B>, Duty<N, X>> for ServeBus<N, X, B>
 where
     N::Port: Drop,
-    Peer<N>: Drop,
+    Peer<N>: Placed + Drop,
     <X::S as Streams>::Peer: Drop,
 {
     fn of(access: GateAccess<B>, duty: Duty<N, X>) -> ServeBus<N, X, B> {
@@ -282,7 +292,7 @@ where
 impl<N: Net, X: Tools + Logs, B: Bus + Drop> Work for ServeBus<N, X, B>
 where
     N::Port: Drop,
-    Peer<N>: Drop,
+    Peer<N>: Placed + Drop,
     <X::S as Streams>::Peer: Drop,
 {
     fn run<R: Wait>(self, rt: &R) {
@@ -299,7 +309,7 @@ fn accept_aborts<R: Wait, T: Listen + Drop, V: Attend<CountingLink<T::Peer>> + D
     worker: V,
 )
 where
-    T::Peer: Drop,
+    T::Peer: Placed + Drop,
 {
     let mut worker = worker;
     let mut port = port;

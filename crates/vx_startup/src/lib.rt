@@ -14,7 +14,7 @@ mod taking;
 mod telling;
 mod words;
 
-pub use logging::{Channel, Logs, News, Reason, tell};
+pub use logging::{Channel, Journal, Logs, News, Place, Placed, Reason};
 pub use preparing::{BENCH_MAX, prepare};
 pub use status::ServerStatus;
 pub use taking::{next_link, open_ports};

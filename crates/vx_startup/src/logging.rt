@@ -1,14 +1,14 @@
-//! The log of a server: a line for each connection that comes, that ends, and that is refused.
-ghost use Rattle.std.specs.Prelude.{◌≡◌, ◌+◌, ◌≤◌, ◌++◌, length, take};
+//! The log of a server: a line for each connection that comes, that ends, and that is refused, with the moment and the peer.
+ghost use Rattle.std.specs.Prelude.{◌≡◌, ℕ, ◌+◌, ◌≤◌, ◌++◌, length, take};
 ghost use Rattle.vx_text.specs.Ends.{sink_shown};
 ghost use Rattle.vx_text.specs.Writing.{IsPut};
-ghost use Rattle.vx_startup.specs.Logging.{channel_word, log_line, news_text, reason};
+ghost use Rattle.vx_startup.specs.Logging.{IsTold, address_text, channel_word, log_line, news_text, place_text, reason};
 
-use vx_io_traits::Sink;
+use vx_io_traits::{Clock, Sink};
 use vx_text::{SinkFailed, put_all, put_number, put_text};
 
-/// Room for the longest line of a log, in bytes.
-const LOG_ROOM: usize = 160;
+/// Room for the longest line of a log, in bytes, where each of its numbers may have 20 digits.
+const LOG_ROOM: usize = 240;
 
 /// Which port a connection came to.
 #[derive(Clone, Copy, PartialEq, Eq)]
@@ -47,6 +47,20 @@ pub enum News {
     Full,
     /// It was refused for want of memory.
     NoMemory,
+}
+
+/// Where the peer of a connection is: its IPv4 address as a number, its first part in the high byte, and its port. Each is 0 where the
+/// system doesn't tell it.
+#[derive(Clone, Copy, PartialEq, Eq)]
+pub struct Place {
+    pub host: u32,
+    pub port: u16,
+}
+
+/// What knows where its peer is.
+pub trait Placed {
+    /// Where its peer was as it came.
+    fn place(&self) -> Place;
 }
 
 /// Where the lines of a log go: each worker of a server has an end of its own.
@@ -115,30 +129,82 @@ fn put_news(out: &mut [u8], at: usize, news: News) -> usize
     }
 }
 
-/// The line of a connection: its channel, its number there, and what is told of it.
-fn log_line(channel: Channel, number: u64, news: News, out: &mut [u8]) -> &[u8]
-    requires { LOG_ROOM ≤ length out.old }
-    ensures { result.now ≡ log_line channel number news }
+/// Writes an address at a place, and answers the place behind it.
+fn put_address(out: &mut [u8], at: usize, host: u32) -> usize
+    requires { at + 83 ≤ length out.old }
+    ensures text { take result out.new ≡ take at out.old ++ address_text host }
+    ensures end { result ≤ at + 83 }
+    ensures len { length out.new ≡ length out.old }
 {
-    let end = put_text(out, 0, channel.word());
+    let at = put_number(out, at, u64::from(host / 16_777_216));
+    let at = put_text(out, at, b".");
+    let at = put_number(out, at, u64::from(host / 65_536 % 256));
+    let at = put_text(out, at, b".");
+    let at = put_number(out, at, u64::from(host / 256 % 256));
+    let at = put_text(out, at, b".");
+    put_number(out, at, u64::from(host % 256))
+}
+
+/// Writes where a peer is at a place, and answers the place behind it.
+fn put_peer(out: &mut [u8], at: usize, peer: Place) -> usize
+    requires { at + 104 ≤ length out.old }
+    ensures text { take result out.new ≡ take at out.old ++ place_text peer }
+    ensures end { result ≤ at + 104 }
+    ensures len { length out.new ≡ length out.old }
+{
+    let at = put_address(out, at, peer.host);
+    let at = put_text(out, at, b":");
+    put_number(out, at, u64::from(peer.port))
+}
+
+/// The line of a connection: the moment, its channel, its number there, where its peer is, and what is told of it.
+fn log_line(
+    moment: u64,
+    channel: Channel,
+    number: u64,
+    place: Place,
+    news: News,
+    out: &mut [u8],
+) -> &[u8]
+    requires { LOG_ROOM ≤ length out.old }
+    ensures { result.now ≡ log_line moment channel number place news }
+{
+    let end = put_number(out, 0, moment);
+    let end = put_text(out, end, b" ");
+    let end = put_text(out, end, channel.word());
     let end = put_text(out, end, b" ");
     let end = put_number(out, end, number);
+    let end = put_text(out, end, b" ");
+    let end = put_peer(out, end, place);
     let end = put_news(out, end, news);
     let end = put_text(out, end, b"\n");
     &out[..end]
 }
 
-/// Writes the line of a connection to a log.
-pub fn tell<K: Sink>(
-    log: &mut K,
-    channel: Channel,
-    number: u64,
-    news: News,
-) -> Result<(), SinkFailed>
-    ensures put { IsPut
-        (sink_shown K.Sink log.old) (sink_shown K.Sink log.new) (log_line channel number news) result }
-    ensures counted { K.faults log.old ≤ K.faults log.new }
-{
-    let mut room = [0; LOG_ROOM];
-    put_all(log, log_line(channel, number, news, &mut room))
+/// The log of one worker: where its lines go, and the clock that tells the moment of each, in milliseconds. The clock is called for
+/// nothing else.
+#[derive(Drop)]
+pub struct Journal<C: Clock, K: Sink> {
+    pub clock: C,
+    pub sink: K,
+}
+
+impl<C: Clock, K: Sink> Journal<C, K> {
+    /// Writes the line of a connection, with the moment that the clock tells now.
+    pub fn tell(
+        &mut self,
+        channel: Channel,
+        number: u64,
+        place: Place,
+        news: News,
+    ) -> Result<(), SinkFailed>
+        ensures put { (moment : ℕ) × IsTold C.Clock self.old.clock moment self.new.clock
+            × IsPut (sink_shown K.Sink self.old.sink) (sink_shown K.Sink self.new.sink) (log_line moment channel number place news) result }
+        ensures counted { K.faults self.old.sink ≤ K.faults self.new.sink }
+    {
+        let moment = self.clock.now();
+        let mut room = [0; LOG_ROOM];
+        let line = log_line(moment, channel, number, place, news, &mut room);
+        put_all(&mut self.sink, line)
+    }
 }

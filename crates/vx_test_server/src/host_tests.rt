@@ -2,12 +2,12 @@
 
 use crossbeam_channel::{bounded, unbounded};
 use std::alloc::{AllocError, Global};
-use std::net::{Ipv4Addr, TcpListener};
+use std::net::{Ipv4Addr, TcpListener, TcpStream};
 use std::sync::Wait;
 use vx_host::{Dialed, TcpTools, ThreadSpawner};
 use vx_io::{
     Accepted, Clock, Dial, DialOut, Handed, Link, Listen, Pause, ReadOut, Spawner, Started,
-    Streams, TcpPort, Work, WriteOut,
+    Streams, TcpLink, TcpPort, Work, WriteOut,
 };
 use vx_session::Tools;
 
@@ -117,4 +117,16 @@ fn dialings<R: Wait>(rt: &R, host: HostRuntime) -> Option<(Dialings, bool)> {
 fn a_dial_hands_its_stream_on(rt: HostRuntime) {
     let carried = Some((3, 7, WriteOut::Took(2), ReadOut::Got(2)));
     assert!(rt; dialings(&rt, rt) == Some(((DialOut::Up, carried, DialOut::Failed), true)));
+}
+
+/// Whether a link that reached a port of this host tells that its peer is there.
+fn is_peer_told(rt: &HostRuntime) -> Option<bool> {
+    let (_port, number) = open_port(rt)?;
+    let stream = TcpStream::connect(rt, (Ipv4Addr::LOCALHOST, number)).ok()?;
+    Some(TcpLink::new(stream).peer_place() == (HERE, number))
+}
+
+#[test]
+fn a_link_tells_where_its_peer_is(rt: HostRuntime) {
+    assert!(rt; is_peer_told(&rt) == Some(true));
 }

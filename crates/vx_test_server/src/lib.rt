@@ -17,6 +17,8 @@ mod client_tools;
 #[cfg(test)]
 mod host_tests;
 #[cfg(test)]
+mod log_tests;
+#[cfg(test)]
 mod loop_tests;
 #[cfg(test)]
 mod relay_tests;

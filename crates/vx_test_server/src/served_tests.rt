@@ -16,7 +16,7 @@ use vx_io_traits::{
 };
 use vx_memory::{MemNet, MemSink, MemSource};
 use vx_rack::{Asker, Spare};
-use vx_serve::{Logs, Serve, serve_run};
+use vx_serve::{Logs, Place, Placed, Serve, serve_run};
 use vx_session::Tools;
 
 // create_link of `gpib0,5`, xid 1
@@ -171,6 +171,22 @@ impl Link for Comparing {
     }
 }
 
+impl Placed for Comparing {
+    /// The peers of abort links are at 10.0.0.7, port 65535, and those of core links at 192.168.1.20, port 40124.
+    fn place(&self) -> Place {
+        match self.side {
+            Side::Abort => Place {
+                host: 0x0A00_0007,
+                port: 65_535,
+            },
+            _ => Place {
+                host: 0xC0A8_0114,
+                port: 40_124,
+            },
+        }
+    }
+}
+
 /// Tells one more each time.
 #[derive(Drop)]
 pub(crate) struct Counting {
@@ -262,7 +278,7 @@ impl Log {
     fn lines(self) -> &'static [(&'static str, u64)] {
         match self {
             Log::Nothing => &THREE_LINKS[..0],
-            Log::OneLink => &THREE_LINKS[..2],
+            Log::OneLink => &ONE_LINK,
             Log::TwoLinks => &THREE_LINKS[..4],
             Log::ThreeLinks => &THREE_LINKS,
             Log::Interrupted => &INTERRUPTED_LOG,
@@ -270,22 +286,46 @@ impl Log {
     }
 }
 
-/// The log of three links, one after another.
+/// The log of a link that a worker is handed. Who takes it and who serves it have a clock each, which tells 1 first.
+static ONE_LINK: [(&str, u64); 2] = [
+    ("1 core 1 192.168.1.20:40124 came\n", 1),
+    (
+        "1 core 1 192.168.1.20:40124 ended: closed by its peer, 1 calls\n",
+        1 << 8,
+    ),
+];
+
+/// The log of three links, one after another, which whoever takes them serves: no clock but the log's has told these moments.
 static THREE_LINKS: [(&str, u64); 6] = [
-    ("core 1 came\n", 1),
-    ("core 1 ended: closed by its peer, 1 calls\n", 1 << 8),
-    ("core 2 came\n", 1 << 16),
-    ("core 2 ended: closed by its peer, 1 calls\n", 1 << 24),
-    ("core 3 came\n", 1 << 32),
-    ("core 3 ended: closed by its peer, 1 calls\n", 1 << 40),
+    ("1 core 1 192.168.1.20:40124 came\n", 1),
+    (
+        "2 core 1 192.168.1.20:40124 ended: closed by its peer, 1 calls\n",
+        1 << 8,
+    ),
+    ("3 core 2 192.168.1.20:40124 came\n", 1 << 16),
+    (
+        "4 core 2 192.168.1.20:40124 ended: closed by its peer, 1 calls\n",
+        1 << 24,
+    ),
+    ("5 core 3 192.168.1.20:40124 came\n", 1 << 32),
+    (
+        "6 core 3 192.168.1.20:40124 ended: closed by its peer, 1 calls\n",
+        1 << 40,
+    ),
 ];
 
 /// The log of a core link and an abort link.
 static INTERRUPTED_LOG: [(&str, u64); 4] = [
-    ("core 1 came\n", 1),
-    ("core 1 ended: closed by its peer, 4 calls\n", 1 << 8),
-    ("abort 1 came\n", 1 << 16),
-    ("abort 1 ended: closed by its peer, 1 calls\n", 1 << 24),
+    ("1 core 1 192.168.1.20:40124 came\n", 1),
+    (
+        "1 core 1 192.168.1.20:40124 ended: closed by its peer, 4 calls\n",
+        1 << 8,
+    ),
+    ("1 abort 1 10.0.0.7:65535 came\n", 1 << 16),
+    (
+        "1 abort 1 10.0.0.7:65535 ended: closed by its peer, 1 calls\n",
+        1 << 24,
+    ),
 ];
 
 /// A log that counts its lines, and adds up what those add that are due.
