@@ -41,15 +41,12 @@ class Helper(Program):
     first_line = "listening {}\n"
 
     def __init__(self, program, *faults, address="5", ports=None):
+        # it goes with this object, and not with a program: where a port is another's by then, one more is started
         self.script = tempfile.NamedTemporaryFile("w", suffix=".faults")
         self.script.write("".join(f"{line}\n" for line in faults))
         self.script.flush()
         words = lambda port: [sys.executable, program, str(port), "simulated", address, "--faults", self.script.name]
         super().__init__(words, ports=ports)
-
-    def __exit__(self, *_):
-        super().__exit__()
-        self.script.close()
 
     def client(self):
         return Client(*self.ports)
