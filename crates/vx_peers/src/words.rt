@@ -6,7 +6,7 @@ ghost use Rattle.vx_peers.specs.Asked.{spelled, IsPeerInRange};
 use vx_text::number_within;
 
 /// What is asked.
-#[derive(Clone, Copy, PartialEq, Eq)]
+#[derive(Clone, Copy)]
 pub struct Ask {
     /// The port to serve at, 1 to 65,535.
     pub port: u16,

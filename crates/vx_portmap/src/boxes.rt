@@ -9,7 +9,7 @@ ghost use Rattle.vx_portmap.specs.Boxes.{MapTakes, MapAdds, NoneLeft, read_by, e
 use vx_io_traits::DialOut;
 
 /// What a take answers.
-#[derive(Clone, Copy, PartialEq, Eq)]
+#[derive(Clone, Copy)]
 pub enum Packet {
     /// So many bytes of a packet, and maybe none, stand at the front of the slice.
     Got(usize),
@@ -20,7 +20,7 @@ pub enum Packet {
 }
 
 /// What a give answers.
-#[derive(Clone, Copy, PartialEq, Eq)]
+#[derive(Clone, Copy)]
 pub enum Given {
     /// The packet went.
     Sent,

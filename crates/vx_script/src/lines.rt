@@ -1,11 +1,11 @@
 //! The step of a line, by its first word and what stands behind it.
-ghost use Rattle.std.specs.Prelude.{◌≡◌, ◌≤◌, ◌-◌, ◌^◌, ℕ, false, length, option_copied, option_map, IfSome};
+ghost use Rattle.std.specs.Prelude.{◌≡◌, ◌≤◌, ◌-◌, ◌^◌, ℕ, false, length, option_copied, option_map, option_and_then, IfSome};
 ghost use Rattle.vx_script.specs.Command.{Command, step_shown};
 ghost use Rattle.vx_script.specs.Grammar.{role_of, dialed_of, at_connection, behind_connection, of_connection, is_bus_word, at_address, behind_address, of_address, behind_word, command_of, said};
 ghost use Rattle.vx_script.specs.Plain.{IsConnection, IsAddress, IsPlainStep};
 ghost use Rattle.vx_script.specs.Reads.{stamped, found_at};
 ghost use Rattle.vx_script.specs.Timed.{is_at, at_moment, timed_by};
-ghost use Rattle.vx_script.specs.Words.{cut, number_up_to};
+ghost use Rattle.vx_script.specs.Words.{cut, number_up_to, address_of, connection_of};
 
 use crate::Step;
 use crate::values::{
@@ -153,6 +153,25 @@ fn of_address<'a>(word: &[u8], a: Address, rest: Option<&'a [u8]>) -> Option<Ste
     }
 }
 
+/// The step of a word behind which a bus address stands, and of that.
+fn behind_bus_word<'a>(word: &[u8], rest: &'a [u8]) -> Option<Step<'a>>
+    ensures value { option_map step_shown result ≡ option_and_then (λ a. of_address word.now a (cut 32 rest.now).1) (address_of (cut 32 rest.now).0) }
+    ensures plain { IfSome result IsPlainStep }
+{
+    let (address, rest) = cut(rest, b' ');
+    of_address(word, address_of(address)?, rest)
+}
+
+/// The step of a word behind which a connection's number stands, and of that.
+fn behind_other_word<'a>(word: &[u8], rest: &[u8], room: &'a mut [u8]) -> Option<Step<'a>>
+    requires { length rest.now ≤ length room.old }
+    ensures value { option_map step_shown result ≡ option_and_then (λ conn. of_connection word.now conn (cut 32 rest.now).1) (connection_of (cut 32 rest.now).0) }
+    ensures plain { IfSome result IsPlainStep }
+{
+    let (number, rest) = cut(rest, b' ');
+    of_connection(word, connection_of(number)?, rest, room)
+}
+
 /// The step of a word and what stands behind it.
 fn behind_word<'a>(word: &[u8], rest: &'a [u8], room: &'a mut [u8]) -> Option<Step<'a>>
     requires { length rest.now ≤ length room.old }
@@ -166,11 +185,9 @@ fn behind_word<'a>(word: &[u8], rest: &'a [u8], room: &'a mut [u8]) -> Option<St
         let n = positive_up_to(rest, u64::from(u32::MAX))?;
         Some(Step::Fail(n as u32))
     } else if is_bus_word(word) {
-        let (address, rest) = cut(rest, b' ');
-        of_address(word, address_of(address)?, rest)
+        behind_bus_word(word, rest)
     } else {
-        let (number, rest) = cut(rest, b' ');
-        of_connection(word, connection_of(number)?, rest, room)
+        behind_other_word(word, rest, room)
     }
 }
 

@@ -4,7 +4,7 @@ use Rattle.vx_script.specs.declared.Cause.{Cause}
 use Rattle.vx_script.specs.declared.Step.{Step as LineStep}
 use Rattle.vx_script.specs.declared.Version.TheVariants.{One}
 use Rattle.vx_script.specs.Command.{step_shown}
-use Rattle.vx_script.specs.Grammar.{Reading, Skipped, Does, Outside, reading}
+use Rattle.vx_script.specs.Grammar.{Reading, reading}
 use Rattle.vx_script.specs.Reads.{Reads}
 use Rattle.vx_setup.specs.declared.stops.Refusal.{Refusal}
 use Rattle.vx_setup.specs.declared.stops.Refusal.TheVariants as stop

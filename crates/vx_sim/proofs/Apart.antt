@@ -4,7 +4,7 @@ use Rattle.std.specs.Prelude.{is_none}
 use Rattle.std.specs.List.{list_any, list_all, filter}
 use Rattle.std.specs.Vec.{with_items}
 use Rattle.std.proofs.lemmas.Bool.{and_parts, or_parts}
-use Rattle.std.proofs.lemmas.List.{with_items_is}
+use Rattle.std.proofs.lemmas.List.{with_items_is, map-append}
 use Rattle.std.proofs.lemmas.List.Folds.{list_any-append}
 use Rattle.vx_488.specs.declared.transfers.Addr.{Addr}
 use Rattle.vx_488.specs.declared.wire.Wire.{Wire}
@@ -144,6 +144,15 @@ ats_shown f at same (x ∷ xs) = ap (λ (a : Addr). a ∷ map (λ p. p.at) (map 
 pub in-order-push : (bench : List Placed) (p : Placed) → IsInOrder bench → is_bus_address p.at ≡ true → holder bench p.at ≡ None → IsInOrder (bench ++ p ∷ [])
 in-order-push bench p order address free =
     (apart-push bench p order.0 free, list_any-append is_astray bench (p ∷ []) ∙ ap (λ b. b || (is_astray p || false)) order.1 ∙ ap (λ b. false || (not b || false)) address)
+
+-- the same of a list that is shown
+pub pushed : {X : Type 0} (f : X → Placed) (xs ys : List X) (x : X) (bench : List Placed) → map f xs ≡ bench → ys ≡ xs ++ x ∷ [] → map f ys ≡ bench ++ f x ∷ []
+pushed f xs ys x bench view more = ap (map f) more ∙ map-append f xs (x ∷ []) ∙ ap (λ (ps : List Placed). ps ++ f x ∷ []) view
+
+pub pushed-in-order : {X : Type 0} (f : X → Placed) (xs ys : List X) (x : X) (bench : List Placed) → map f xs ≡ bench → ys ≡ xs ++ x ∷ []
+    → IsInOrder (map f xs) → is_bus_address (f x).at ≡ true → holder bench (f x).at ≡ None → IsInOrder (map f ys)
+pushed-in-order f xs ys x bench view more order address free =
+    subst IsInOrder (sym (pushed f xs ys x bench view more)) (in-order-push bench (f x) (subst IsInOrder view order) address free)
 
 -- Those that are left stay in order.
 pub in-order-filter : (keep : Placed → Bool) (bench : List Placed) → IsInOrder bench → IsInOrder (filter keep bench)

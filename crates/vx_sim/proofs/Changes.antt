@@ -1,7 +1,9 @@
 -- Loops that change each place of a list in turn.
 use Rattle.std.proofs.Common.{◌≡◌, ℕ, zero, suc, ◌+◌, ◌<◌, Bool, true, false, cond, not, nat_lt, ◌||◌, None, List, [], ◌∷◌, length, map, get_or, set, refl, sym, ap, ◌∙◌, subst, arith}
 use Rattle.std.specs.List.{list_any, AllZip, position, position_or_len}
-use Rattle.std.proofs.lemmas.Bool.{lt-ltb, or_parts}
+use Rattle.std.specs.Prelude.{is_some, Option, Some, ◌≤◌, find, drop}
+use Rattle.std.proofs.lemmas.Bool.{lt-ltb, le-ltb, or_parts}
+use Rattle.std.proofs.lemmas.List.{drop_more}
 use Rattle.vx_sim.specs.Occupants.{Placed}
 use Rattle.vx_sim.specs.Shown.{AtPlace}
 
@@ -63,11 +65,6 @@ pub any_shown : {X Y : Type 0} (f : X → Y) (p : Y → Bool) (xs : List X) → 
 any_shown f p [] = refl
 any_shown f p (x ∷ xs) = ap (λ b. p (f x) || b) (any_shown f p xs)
 
--- the same, of a list that is shown by one that is known
-pub any_known : {X Y : Type 0} (f : X → Y) (p : Y → Bool) (known : List Y) (xs items : List X) (b : Bool) → map f items ≡ known → xs ≡ items → b ≡ list_any (λ x. p (f x)) xs → b ≡ list_any p known
-any_known f p known xs items b view here passes =
-    passes ∙ sym (any_shown f p xs) ∙ ap (λ zs. list_any p (map f zs)) here ∙ ap (list_any p) view
-
 -- where it is so nowhere, it isn't so at any index
 pub nowhere : {X : Type 0} (p : X → Bool) (xs : List X) (i : ℕ) (d : X) → list_any p xs ≡ false → i < length xs → p (get_or xs i d) ≡ false
 nowhere p [] i d none within = absurd (omega arith)
@@ -96,3 +93,53 @@ no_position p xs none = at (list_any p xs) refl
     at : (b : Bool) → list_any p xs ≡ b → b ≡ false
     at false e = refl
     at true e = let less : nat_lt (position_or_len p xs) (length xs) ≡ true = lt-ltb _ _ (first_within p xs e) in cc
+
+-- where it is so nowhere, no place is found
+none_found : {X : Type 0} (p : X → Bool) (xs : List X) → list_any p xs ≡ false → length xs ≤ position_or_len p xs
+none_found p [] none = omega arith
+none_found p (x ∷ xs) none =
+    let parts = or_parts (p x) (list_any p xs) none in
+    let here : position_or_len p (x ∷ xs) ≡ 1 + position_or_len p xs = ap (λ b. cond (not b) (1 + position_or_len p xs) 0) parts.0 in
+    omega (arith, here, none_found p xs parts.1)
+
+-- a first place is found exactly where it is so somewhere
+some_position : {X : Type 0} (p : X → Bool) (xs : List X) → is_some (position p xs) ≡ list_any p xs
+some_position p xs = at (list_any p xs) refl
+  where
+    by : nat_lt (position_or_len p xs) (length xs) ≡ list_any p xs → is_some (position p xs) ≡ list_any p xs
+    by e = is_so (nat_lt (position_or_len p xs) (length xs)) (list_any p xs) e
+      where
+        is_so : (b c : Bool) → b ≡ c → is_some (cond b (Some (position_or_len p xs)) None) ≡ c
+        is_so true c e = e
+        is_so false c e = e
+
+    at : (b : Bool) → list_any p xs ≡ b → is_some (position p xs) ≡ list_any p xs
+    at true e = by (lt-ltb _ _ (first_within p xs e) ∙ sym e)
+    at false e = by (le-ltb _ _ (none_found p xs e) ∙ sym e)
+
+-- the same, of a list that is shown by one that is known
+pub any_first : {X Y : Type 0} (f : X → Y) (p : Y → Bool) (known : List Y) (xs items : List X) (o : Option ℕ) (b : Bool) → map f items ≡ known → xs ≡ items
+    → o ≡ position (λ x. p (f x)) xs → b ≡ is_some o → b ≡ list_any p known
+any_first f p known xs items o b view here first is =
+    is ∙ ap is_some first ∙ some_position (λ x. p (f x)) xs ∙ sym (any_shown f p xs) ∙ ap (λ zs. list_any p (map f zs)) here ∙ ap (list_any p) view
+
+-- the first one of which it is so, among those that are not reached yet
+module _ {X Y : Type 0} (f : X → Y) (p : Y → Bool) (xs : List X) (i : ℕ) (d : X) (all : Option Y) where
+  next : i < length xs → find p (map f (drop i xs)) ≡ cond (p (f (get_or xs i d))) (Some (f (get_or xs i d))) (find p (map f (drop (i + 1) xs)))
+  next within = ap (λ ys. find p (map f ys)) (drop_more xs i d within)
+
+  pub found_here : i < length xs → p (f (get_or xs i d)) ≡ true → find p (map f (drop i xs)) ≡ all → Some (f (get_or xs i d)) ≡ all
+  found_here within is far = ap (λ b. cond b (Some (f (get_or xs i d))) (find p (map f (drop (i + 1) xs)))) (sym is) ∙ sym (next within) ∙ far
+
+  pub none_here : i < length xs → p (f (get_or xs i d)) ≡ false → find p (map f (drop i xs)) ≡ all → find p (map f (drop (i + 1) xs)) ≡ all
+  none_here within is far = ap (λ b. cond b (Some (f (get_or xs i d))) (find p (map f (drop (i + 1) xs)))) (sym is) ∙ sym (next within) ∙ far
+
+-- there is none where all were passed
+pub found_nowhere : {X Y : Type 0} (f : X → Y) (p : Y → Bool) (xs : List X) (i : ℕ) (all : Option Y) → length xs ≡ i → find p (map f (drop i xs)) ≡ all → None ≡ all
+found_nowhere f p xs i all whole far = ap (λ ys. find p (map f ys)) (sym (past xs i whole)) ∙ far
+  where
+    past : {X : Type 0} (xs : List X) (i : ℕ) → length xs ≡ i → drop i xs ≡ []
+    past [] zero h = refl
+    past [] (suc i) h = refl
+    past (x ∷ xs) zero h = absurd (omega arith)
+    past (x ∷ xs) (suc i) h = past xs i (omega arith)

@@ -8,12 +8,11 @@ use Rattle.std.proofs.lemmas.List.Quantifiers.{position-Some}
 use Rattle.std.proofs.lemmas.Option.{slice_get-get_or}
 use Rattle.vx_488.specs.declared.transfers.Addr.{Addr}
 use Rattle.vx_488.specs.declared.wire.Wire.{Wire}
-use Rattle.vx_inst.specs.Laws.{takes_byte}
-use Rattle.vx_sim.specs.Occupants.{Occupant, Placed, seen}
-use Rattle.vx_sim.specs.Bench.{listens, talks, refuses, some_refuses, holds_put, holds_get, answers_get, can_answer, OccupantWhere, PlaceWhere, BenchWhere}
+use Rattle.vx_sim.specs.Occupants.{Occupant, Placed}
+use Rattle.vx_sim.specs.Bench.{listens, talks, some_refuses, holds_put, holds_get, answers_get, can_answer, OccupantWhere, PlaceWhere, BenchWhere}
 use Rattle.vx_sim.specs.Attaching.{AreApart}
 use Rattle.vx_sim.specs.Finding.{indices, is_at, ChangesAt}
-use Rattle.vx_sim.proofs.Changes.{SoFar, changes_more, not_yet, as_long, all_changed, any_shown, nowhere, no_position}
+use Rattle.vx_sim.proofs.Changes.{SoFar, changes_more, not_yet, as_long, all_changed, nowhere, no_position}
 use Rattle.vx_sim.proofs.Apart.{no_other}
 
 -- ---- going along a list
@@ -118,39 +117,6 @@ some-found p n (x ∷ xs) h = at (p x) refl (some-found p (n + 1) xs) h
 -- what is so at a place within the list is so of the one there
 pub is_at-within : {X : Type 0} (q : X → Bool) (xs : List X) (n : ℕ) (d : X) → n < length xs → is_at q xs n ≡ q (get_or xs n d)
 is_at-within {X} q xs n d within = ap (λ (o : Option X). option_map_or q o false) (slice_get-get_or xs n d within)
-
--- a question to them is one to those of which it is so
-any-of : {X : Type 0} (p q : X → Bool) (all : List X) (n : ℕ) (xs : List X) → drop n all ≡ xs
-    → list_any (λ i. is_at q all i) (indices p n xs) ≡ list_any (λ x. p x && q x) xs
-any-of p q all n [] e = refl
-any-of {X} p q all n (x ∷ xs) e = at (p x) (any-of p q all (n + 1) xs behind)
-  where
-    within : n < length all
-    within = inside n all e where
-      inside : (n : ℕ) (all : List X) → drop n all ≡ x ∷ xs → n < length all
-      inside zero [] e = cc
-      inside zero (y ∷ ys) e = omega arith
-      inside (suc n) [] e = cc
-      inside (suc n) (y ∷ ys) e = let less : n < length ys = inside n ys e in omega arith
-
-    split : get_or all n x ∷ drop (n + 1) all ≡ x ∷ xs
-    split = sym (at-front n all x within) ∙ e
-
-    behind : drop (n + 1) all ≡ xs
-    behind = ap (drop 1) split
-
-    here : is_at q all n ≡ q x
-    here =
-        let first : get_or all n x ≡ x = ap (λ (ys : List X). get_or ys 0 x) split in
-        is_at-within q all n x within ∙ ap q first
-
-    at : (b : Bool) → list_any (λ i. is_at q all i) (indices p (n + 1) xs) ≡ list_any (λ y. p y && q y) xs
-        → list_any (λ i. is_at q all i) (cond b (n ∷ indices p (n + 1) xs) (indices p (n + 1) xs)) ≡ ((b && q x) || list_any (λ y. p y && q y) xs)
-    at true rest = ap (λ c. c || list_any (λ i. is_at q all i) (indices p (n + 1) xs)) here ∙ ap (λ c. q x || c) rest
-    at false rest = rest
-
-pub any-found : {X : Type 0} (p q : X → Bool) (all : List X) → list_any (λ i. is_at q all i) (indices p 0 all) ≡ list_any (λ x. p x && q x) all
-any-found p q all = any-of p q all 0 all refl
 
 -- ---- changes of those that were found, one after the other
 
@@ -401,17 +367,12 @@ held-by-none w bench ks e none =
     sym (ap (λ b. not b || some_refuses w bench) (none-found (listens w) 0 bench empty))
 
 -- and else where one of them can't take a byte
-pub held-by-some : {X : Type 0} (f : X → Placed) (w : Wire) (xs : List X) (bench : List Placed) (ks : List ℕ) (b : Bool) → map f xs ≡ bench
-    → ks ≡ indices (listens w) 0 bench → false ≡ (length ks == 0) → b ≡ list_any (λ i. is_at (λ x. not (takes_byte (seen (f x).occupant))) xs i) ks
-    → b ≡ holds_put w bench
-held-by-some {X} f w xs bench ks b shown e some is =
-    let q : X → Bool = λ x. not (takes_byte (seen (f x).occupant)) in
+pub held-by-some : (w : Wire) (bench : List Placed) (ks : List ℕ) → ks ≡ indices (listens w) 0 bench → false ≡ (length ks == 0)
+    → some_refuses w bench ≡ holds_put w bench
+held-by-some w bench ks e some =
     let there : list_any (listens w) bench ≡ true =
     some-found (listens w) 0 bench (λ none. eqb-false (length ks) 0 (sym some) (ap length (e ∙ none))) in
-    let found_by : ks ≡ indices (λ x. listens w (f x)) 0 xs = e ∙ ap (indices (listens w) 0) (sym shown) ∙ indices-shown f (listens w) 0 xs in
-    is ∙ ap (list_any (λ i. is_at q xs i)) found_by ∙ any-found (λ x. listens w (f x)) q xs
-    ∙ sym (any_shown f (refuses w) xs) ∙ ap (list_any (refuses w)) shown
-    ∙ ap (λ c. not c || some_refuses w bench) (sym there)
+    ap (λ c. not c || some_refuses w bench) (sym there)
 
 -- the talker that holds no get answers it
 pub talker-gives : {X : Type 0} (f : X → Placed) (w : Wire) (xs : List X) (i : ℕ) (d : X) → AreApart (map f xs) → position (λ x. talks w (f x)) xs ≡ Some i

@@ -70,7 +70,7 @@ impl<I: Instrument> Bench<I> {
     pub(crate) fn any(&self, wire: &Wire, question: Question) -> bool
         ensures { result ≡ list_any (is_so wire.now question) self.now }
     {
-        any_place(&self.places, wire, question)
+        first_place(&self.places, wire, question).is_some()
     }
 
     /// The first instrument that is in the way of one at this address.
@@ -118,7 +118,7 @@ impl<I: Instrument> Bench<I> {
         requires { hearers.now ≡ indices (listens wire.now) 0 self.now }
         ensures { result ≡ holds_put wire.now self.now }
     {
-        hearers.is_empty() || some_waits(&self.places, hearers)
+        hearers.is_empty() || self.any(wire, Question::Refuses)
     }
 
     /// Every listener takes a byte.
@@ -173,7 +173,7 @@ impl<I: Instrument> Bench<I> {
     pub(crate) fn speaker(&self, wire: &Wire) -> Option<usize>
         ensures { result ≡ position (talks wire.now) self.now }
     {
-        first_to_talk(&self.places, wire)
+        first_place(&self.places, wire, Question::Talks)
     }
 
     /// Whether a get is held: there is no talker, or it has no byte to give.
@@ -223,21 +223,12 @@ fn known_all<I: Instrument>(places: &[Place<I>])
     }
 }
 
-/// Whether this is so at some place.
-fn any_place<I: Instrument>(places: &[Place<I>], wire: &Wire, question: Question) -> bool
-    ensures { result ≡ list_any (λ p. is_so wire.now question (placed_of p)) places.now }
-{
-    places.iter().any(|place| place.is_so(wire, question))
-}
-
-/// The first place at which the talker stands.
-fn first_to_talk<I: Instrument>(places: &[Place<I>], wire: &Wire) -> Option<usize>
-    ensures first { result ≡ position (λ p. talks wire.now (placed_of p)) places.now }
+/// The first place at which this is so.
+fn first_place<I: Instrument>(places: &[Place<I>], wire: &Wire, question: Question) -> Option<usize>
+    ensures first { result ≡ position (λ p. is_so wire.now question (placed_of p)) places.now }
     ensures within { IfSome result (λ i. i < length places.now) }
 {
-    places
-        .iter()
-        .position(|place| place.is_so(wire, Question::Talks))
+    places.iter().position(|place| place.is_so(wire, question))
 }
 
 /// The indices of the listeners, in order.
@@ -254,31 +245,16 @@ fn hearers<I: Instrument>(places: &[Place<I>], wire: &Wire) -> Hearers
     hearers
 }
 
-/// Whether the instrument at this index can't take a byte.
-fn waits_at<I: Instrument>(places: &[Place<I>], index: u8) -> bool
-    ensures { result ≡ is_at waits places.now index }
-{
-    match places.get(usize::from(index)) {
-        Some(place) => place.waits(),
-        None => false,
-    }
-}
-
-/// Whether some instrument at these indices can't take a byte.
-fn some_waits<I: Instrument>(places: &[Place<I>], indices: &[u8]) -> bool
-    ensures { result ≡ list_any (λ i. is_at waits places.now i) indices.now }
-{
-    indices.iter().any(|index| waits_at(places, *index))
-}
-
 /// The first address that is in the way of this one.
 fn first_clash<I: Instrument>(places: &[Place<I>], a: Addr) -> Option<Addr>
     ensures { result ≡ find (λ h. clashes h a) (map (λ p. p.at) places.now) }
 {
-    places
-        .iter()
-        .map(|place| place.at)
-        .find(|at| clashes(*at, a))
+    for place in places {
+        if clashes(place.at, a) {
+            return Some(place.at);
+        }
+    }
+    None
 }
 
 /// Whether two instruments can't stand at these: they are one address, or at one primary where one of the two has no

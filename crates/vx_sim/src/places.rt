@@ -259,13 +259,6 @@ impl<I: Instrument> Place<I> {
         }
     }
 
-    /// Whether it can't take a byte.
-    pub(crate) fn waits(&self) -> bool
-        ensures { result ≡ waits self.now }
-    {
-        !self.stand.can_take()
-    }
-
     /// Takes a byte: it is a listener on this wire.
     pub(crate) fn take(&mut self, wire: &Wire, b: u8, end: bool)
         requires listens { listens wire.now (placed_of self.old) ≡ true }

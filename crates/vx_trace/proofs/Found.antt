@@ -217,10 +217,10 @@ word-read word rest conn line small e =
     by_text word (codes "bus") _ _ line e (λ w h. of_word (codes "bus") w (bus-read conn rest line small h))
     (λ e. by_text word (codes "out") _ _ line e (λ w h. of_word (codes "out") w (out-read conn rest line small h))
     (λ e. by_text word (codes "irq") _ _ line e (λ w h. of_word (codes "irq") w (irq-read conn rest line small h))
+    (λ e. by_text word (codes "call") _ _ line e (λ w h. of_word (codes "call") w (call-read conn rest line small h))
     (λ e. by_text word (codes "wait") _ _ line e (λ w h. of_word (codes "wait") w (wait-read conn rest line small h))
     (λ e. by_text word (codes "gone") _ _ line e (λ w h. of_word (codes "gone") w (gone-read conn rest line small h))
     (λ e. by_text word (codes "up") _ _ line e (λ w h. of_word (codes "up") w (up-read conn rest line small h))
-    (λ e. by_text word (codes "call") _ _ line e (λ w h. of_word (codes "call") w (call-read conn rest line small h))
     (λ e. by_text word (codes "dial") _ None line e (λ w h. of_word (codes "dial") w (dial-read conn rest line small h))
     (λ e. absurd cc))))))))
   where

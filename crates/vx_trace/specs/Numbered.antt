@@ -1,11 +1,12 @@
 -- The parts of a line with a number: a word, the number, what stands between, a tail, and LF.
-use Rattle.std.specs.Prelude.{ℕ, ◌+◌, ◌*◌, ◌^◌, ◌<◌, ⊤, List, ◌++◌, length, codes, decimal}
+use Rattle.std.specs.Prelude.{ℕ, ◌+◌, ◌*◌, ◌^◌, ◌<◌, ⊤, Bool, true, false, List, ◌++◌, length, codes, decimal}
 use Rattle.std.specs.List.{All}
 use Rattle.hex.specs.Hex.{encode_upper}
 use Rattle.vx_trace.specs.declared.put.Tail.{Tail}
 use Rattle.vx_trace.specs.declared.put.Tail.TheVariants as tail
 use Rattle.vx_trace.specs.declared.put.Parts.{Parts}
 use Rattle.vx_trace.specs.declared.put.Parts.TheVariants as parts
+use Rattle.vx_trace.specs.Output.{Output, Bus, Out, Irq, IrqNone, IrqClosed, WaitLock, WaitTurn, WaitBehind, WaitHeld, WaitSlice, WaitDial, GoneDown, GoneJunk, GoneLong, FaultLine, Call}
 use Rattle.vx_trace.specs.Text.{moves_text, IsByteTransfer}
 
 abbrev pub tail_text : Tail → List ℕ
@@ -52,3 +53,27 @@ abbrev pub parts_room : Parts → ℕ
 parts_room (parts.Text text) = length text.now
 parts_room (parts.About front conn middle tail) = numbered_room front.now 10 middle.now tail
 parts_room (parts.Fault line word) = 33 + length word.now
+
+-- a connection's line that says no more of it than a fixed word
+abbrev pub is_named : Output → Bool
+is_named (IrqNone conn) = true
+is_named (IrqClosed conn) = true
+is_named (WaitHeld conn) = true
+is_named (WaitSlice conn) = true
+is_named (WaitDial conn) = true
+is_named (GoneDown conn) = true
+is_named (GoneJunk conn) = true
+is_named (GoneLong conn) = true
+is_named _ = false
+
+-- a line without transfers, bytes, a second number and a cause
+abbrev pub is_short : Output → Bool
+is_short (Bus conn moves) = false
+is_short (Out conn bytes) = false
+is_short (Irq conn bytes) = false
+is_short (Call conn bytes) = false
+is_short (WaitLock conn lid) = false
+is_short (WaitTurn conn by) = false
+is_short (WaitBehind conn by) = false
+is_short (FaultLine line word) = false
+is_short _ = true

@@ -138,18 +138,35 @@ dial_of conn rest =
     else if bytes_eq rest (codes "fail") then Some (DialDone conn false)
     else None
 
--- the line of a word and a connection, and of what stands behind them
-abbrev pub by_word : List ℕ → ℕ → List ℕ → Option Output
-by_word word conn rest =
-    if bytes_eq word (codes "bus") then option_map (λ moves. Bus conn moves) (moves_of rest)
-    else if bytes_eq word (codes "out") then option_map (λ bytes. Out conn bytes) (bytes_of rest)
-    else if bytes_eq word (codes "irq") then irq_of conn rest
-    else if bytes_eq word (codes "wait") then wait_of conn rest
+-- the line of a word and a connection, and of what stands behind them: one without transfers or bytes
+abbrev pub short_of : List ℕ → ℕ → List ℕ → Option Output
+short_of word conn rest =
+    if bytes_eq word (codes "wait") then wait_of conn rest
     else if bytes_eq word (codes "gone") then gone_of conn rest
     else if bytes_eq word (codes "up") then option_map (λ r. Up conn r) (role_of rest)
-    else if bytes_eq word (codes "call") then option_map (λ bytes. Call conn bytes) (any_bytes_of rest)
     else if bytes_eq word (codes "dial") then dial_of conn rest
     else None
+
+abbrev pub out_of : ℕ → List ℕ → Option Output
+out_of conn rest = option_map (λ bytes. Out conn bytes) (bytes_of rest)
+
+abbrev pub call_of : ℕ → List ℕ → Option Output
+call_of conn rest = option_map (λ bytes. Call conn bytes) (any_bytes_of rest)
+
+-- one without transfers
+abbrev pub movesless_of : List ℕ → ℕ → List ℕ → Option Output
+movesless_of word conn rest =
+    if bytes_eq word (codes "out") then out_of conn rest
+    else if bytes_eq word (codes "irq") then irq_of conn rest
+    else if bytes_eq word (codes "call") then call_of conn rest
+    else short_of word conn rest
+
+abbrev pub bus_of : ℕ → List ℕ → Option Output
+bus_of conn rest = option_map (λ moves. Bus conn moves) (moves_of rest)
+
+-- any of them
+abbrev pub by_word : List ℕ → ℕ → List ℕ → Option Output
+by_word word conn rest = if bytes_eq word (codes "bus") then bus_of conn rest else movesless_of word conn rest
 
 -- the line of a refused step, behind its first two words
 abbrev pub fault_for : ℕ → List ℕ → Option Output
@@ -214,9 +231,16 @@ if_timed moment line = if is_timed line then Some (moment, line) else None
 abbrev pub if_untimed : Output → Option (ℕ × Output)
 if_untimed line = if is_timed line then None else Some (0, line)
 
+-- the line of a text behind a moment, and of one without
+abbrev pub timed_of : ℕ → List ℕ → Option (ℕ × Output)
+timed_of moment text = option_and_then (if_timed moment) (line_of text)
+
+abbrev pub untimed_of : List ℕ → Option (ℕ × Output)
+untimed_of text = option_and_then if_untimed (line_of text)
+
 abbrev pub line2_with : List ℕ → Option (ℕ × List ℕ) → Option (ℕ × Output)
-line2_with text None = option_and_then if_untimed (line_of text)
-line2_with text (Some p) = option_and_then (if_timed p.0) (line_of p.1)
+line2_with text None = untimed_of text
+line2_with text (Some p) = timed_of p.0 p.1
 
 -- the line of version 2 of a text, its LF left out, and its moment
 abbrev pub line2_of : List ℕ → Option (ℕ × Output)

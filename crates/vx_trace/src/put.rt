@@ -4,7 +4,7 @@ ghost use Rattle.std.specs.List.{All};
 ghost use Rattle.hex.specs.Hex.{encode_upper};
 ghost use Rattle.vx_trace.specs.Output.{line_shown};
 ghost use Rattle.vx_trace.specs.Text.{IsWhole, IsLine, HasRanges, IsByteTransfer, is_first, role_text, dial_text, line_text, line_text2, text_room, text_room2, transfer_text, moves_text};
-ghost use Rattle.vx_trace.specs.Numbered.{TailFits, tail_text, tail_room, numbered_text, numbered_room, PartsFit, parts_text, parts_room};
+ghost use Rattle.vx_trace.specs.Numbered.{TailFits, tail_text, tail_room, numbered_text, numbered_room, PartsFit, parts_text, parts_room, is_named, is_short};
 ghost use Rattle.vx_trace.specs.Writing.{WritesFirst, Puts, PutsBehind, overwritten};
 
 use crate::lines::{Full, Line};
@@ -282,38 +282,39 @@ fn dial_text(up: bool) -> &'static [u8]
     if up { b"ok" } else { b"fail" }
 }
 
-fn parts_of<'a>(line: &Line<'a>) -> Parts<'a>
+/// The parts of a connection's line that says no more of it than a fixed word.
+fn named_parts(line: &Line<'_>) -> Parts<'static>
+    requires { is_named (line_shown line.now) ≡ true }
     ensures text { parts_text result ≡ line_text (line_shown line.now) }
     ensures fits { PartsFit result → HasRanges (line_shown line.now) }
     ensures room { IsWhole (line_shown line.now) → parts_room result ≤ text_room (line_shown line.now) }
 {
     match *line {
-        Line::Bus { conn, moves } => Parts::About(b"bus ", conn, b"", Tail::Moves(moves)),
-        Line::Out { conn, bytes } => Parts::About(b"out ", conn, b" ", Tail::Hex(bytes)),
-        Line::Irq { conn, bytes } => Parts::About(b"irq ", conn, b" ", Tail::Hex(bytes)),
         Line::IrqNone { conn } => Parts::About(b"irq ", conn, b" ", Tail::Word(b"none")),
         Line::IrqClosed { conn } => Parts::About(b"irq ", conn, b" ", Tail::Word(b"closed")),
-        Line::WaitLock { conn, lid } => Parts::About(b"wait ", conn, b" lock ", Tail::Number(lid)),
-        Line::WaitTurn { conn, by } => Parts::About(b"wait ", conn, b" turn ", Tail::Number(by)),
-        Line::WaitBehind { conn, by } => Parts::About(
-            b"wait ",
-            conn,
-            b" behind ",
-            Tail::Number(by),
-        ),
         Line::WaitHeld { conn } => Parts::About(b"wait ", conn, b" ", Tail::Word(b"held")),
         Line::WaitSlice { conn } => Parts::About(b"wait ", conn, b" ", Tail::Word(b"slice")),
         Line::WaitDial { conn } => Parts::About(b"wait ", conn, b" ", Tail::Word(b"dial")),
         Line::GoneDown { conn } => Parts::About(b"gone ", conn, b" ", Tail::Word(b"down")),
         Line::GoneJunk { conn } => Parts::About(b"gone ", conn, b" ", Tail::Word(b"junk")),
         Line::GoneLong { conn } => Parts::About(b"gone ", conn, b" ", Tail::Word(b"long")),
+        _ => unreachable!(),
+    }
+}
+
+/// The parts of a line without transfers, bytes, a second number and a cause.
+fn short_parts(line: &Line<'_>) -> Parts<'static>
+    requires { is_short (line_shown line.now) ≡ true }
+    ensures text { parts_text result ≡ line_text (line_shown line.now) }
+    ensures fits { PartsFit result → HasRanges (line_shown line.now) }
+    ensures room { IsWhole (line_shown line.now) → parts_room result ≤ text_room (line_shown line.now) }
+{
+    match *line {
         Line::Done => Parts::Text(b"done\n"),
-        Line::FaultLine { line, word } => Parts::Fault { line, word },
         Line::FaultLong => Parts::Text(b"fault long\n"),
         Line::Usage => Parts::Text(b"usage: vxplay COMMAND\n"),
         Line::TraceHead => Parts::Text(b"vxtrace 2\n"),
         Line::Up { conn, role } => Parts::About(b"up ", conn, b" ", Tail::Word(role_text(role))),
-        Line::Call { conn, bytes } => Parts::About(b"call ", conn, b" ", Tail::Hex(bytes)),
         Line::Begin { conn } => Parts::About(b"begin ", conn, b"", Tail::Word(b"")),
         Line::DialDone { conn, up } => Parts::About(
             b"dial ",
@@ -323,6 +324,30 @@ fn parts_of<'a>(line: &Line<'a>) -> Parts<'a>
         ),
         Line::Srq { level: false } => Parts::Text(b"srq 0\n"),
         Line::Srq { level: true } => Parts::Text(b"srq 1\n"),
+        _ => named_parts(line),
+    }
+}
+
+fn parts_of<'a>(line: &Line<'a>) -> Parts<'a>
+    ensures text { parts_text result ≡ line_text (line_shown line.now) }
+    ensures fits { PartsFit result → HasRanges (line_shown line.now) }
+    ensures room { IsWhole (line_shown line.now) → parts_room result ≤ text_room (line_shown line.now) }
+{
+    match *line {
+        Line::Bus { conn, moves } => Parts::About(b"bus ", conn, b"", Tail::Moves(moves)),
+        Line::Out { conn, bytes } => Parts::About(b"out ", conn, b" ", Tail::Hex(bytes)),
+        Line::Irq { conn, bytes } => Parts::About(b"irq ", conn, b" ", Tail::Hex(bytes)),
+        Line::Call { conn, bytes } => Parts::About(b"call ", conn, b" ", Tail::Hex(bytes)),
+        Line::WaitLock { conn, lid } => Parts::About(b"wait ", conn, b" lock ", Tail::Number(lid)),
+        Line::WaitTurn { conn, by } => Parts::About(b"wait ", conn, b" turn ", Tail::Number(by)),
+        Line::WaitBehind { conn, by } => Parts::About(
+            b"wait ",
+            conn,
+            b" behind ",
+            Tail::Number(by),
+        ),
+        Line::FaultLine { line, word } => Parts::Fault { line, word },
+        _ => short_parts(line),
     }
 }
 

@@ -2,7 +2,7 @@
 ghost use Rattle.std.specs.Prelude.{◌≡◌, ◌≢◌, ℕ, ◌^◌, ◌<◌, ◌≤◌, true, false, length, IfNone, IfSome, option_map};
 ghost use Rattle.vx_trace.specs.Output.{Output, line_shown};
 ghost use Rattle.vx_trace.specs.Text.{IsLine, is_first, is_timed, line_text, line_text2};
-ghost use Rattle.vx_trace.specs.Reading.{irq_of, wait_for, wait_of, gone_of, role_of, dial_of, by_word, begin_of, fault_for, fault_of, behind_word, numbered_of, line_of, if_first, line1_of, moment_of, if_timed, if_untimed, line2_of};
+ghost use Rattle.vx_trace.specs.Reading.{irq_of, wait_for, wait_of, gone_of, role_of, dial_of, short_of, out_of, call_of, movesless_of, bus_of, by_word, begin_of, fault_for, fault_of, behind_word, numbered_of, line_of, if_first, line1_of, moment_of, timed_of, untimed_of, line2_of};
 
 use crate::lines::{Line, is_cause};
 use crate::transfers::moves_of;
@@ -92,7 +92,65 @@ fn dial_of(conn: u32, rest: &[u8]) -> Option<Line<'static>>
     }
 }
 
-/// The line of a word and a connection, and of what stands behind them.
+fn bus_of<'a>(conn: u32, rest: &[u8], room: &'a mut [Transfer]) -> Option<Line<'a>>
+    requires { length rest.now < length room.old }
+    ensures { option_map line_shown result ≡ bus_of conn rest.now }
+{
+    let moves = moves_of(rest, room)?;
+    Some(Line::Bus { conn, moves })
+}
+
+fn out_of<'a>(conn: u32, rest: &[u8], room: &'a mut [u8]) -> Option<Line<'a>>
+    requires { length rest.now ≤ length room.old }
+    ensures { option_map line_shown result ≡ out_of conn rest.now }
+{
+    let bytes = bytes_of(rest, room)?;
+    Some(Line::Out { conn, bytes })
+}
+
+fn call_of<'a>(conn: u32, rest: &[u8], room: &'a mut [u8]) -> Option<Line<'a>>
+    requires { length rest.now ≤ length room.old }
+    ensures { option_map line_shown result ≡ call_of conn rest.now }
+{
+    let bytes = any_bytes_of(rest, room)?;
+    Some(Line::Call { conn, bytes })
+}
+
+/// The line of a word and a connection, and of what stands behind them: one without transfers or bytes.
+fn short_of(word: &[u8], conn: u32, rest: &[u8]) -> Option<Line<'static>>
+    ensures { option_map line_shown result ≡ short_of word.now conn rest.now }
+{
+    if is(word, b"wait") {
+        wait_of(conn, rest)
+    } else if is(word, b"gone") {
+        gone_of(conn, rest)
+    } else if is(word, b"up") {
+        let role = role_of(rest)?;
+        Some(Line::Up { conn, role })
+    } else if is(word, b"dial") {
+        dial_of(conn, rest)
+    } else {
+        None
+    }
+}
+
+/// The same, of a line without transfers.
+fn movesless_of<'a>(word: &[u8], conn: u32, rest: &[u8], bytes: &'a mut [u8]) -> Option<Line<'a>>
+    requires { length rest.now ≤ length bytes.old }
+    ensures { option_map line_shown result ≡ movesless_of word.now conn rest.now }
+{
+    if is(word, b"out") {
+        out_of(conn, rest, bytes)
+    } else if is(word, b"irq") {
+        irq_of(conn, rest, bytes)
+    } else if is(word, b"call") {
+        call_of(conn, rest, bytes)
+    } else {
+        short_of(word, conn, rest)
+    }
+}
+
+/// The same, of any line of a connection.
 fn by_word<'a>(
     word: &[u8],
     conn: u32,
@@ -105,27 +163,9 @@ fn by_word<'a>(
     ensures { option_map line_shown result ≡ by_word word.now conn rest.now }
 {
     if is(word, b"bus") {
-        let moves = moves_of(rest, moves)?;
-        Some(Line::Bus { conn, moves })
-    } else if is(word, b"out") {
-        let bytes = bytes_of(rest, bytes)?;
-        Some(Line::Out { conn, bytes })
-    } else if is(word, b"irq") {
-        irq_of(conn, rest, bytes)
-    } else if is(word, b"wait") {
-        wait_of(conn, rest)
-    } else if is(word, b"gone") {
-        gone_of(conn, rest)
-    } else if is(word, b"up") {
-        let role = role_of(rest)?;
-        Some(Line::Up { conn, role })
-    } else if is(word, b"call") {
-        let bytes = any_bytes_of(rest, bytes)?;
-        Some(Line::Call { conn, bytes })
-    } else if is(word, b"dial") {
-        dial_of(conn, rest)
+        bus_of(conn, rest, moves)
     } else {
-        None
+        movesless_of(word, conn, rest, bytes)
     }
 }
 
@@ -243,10 +283,18 @@ fn moment_of(text: &[u8]) -> Option<(u64, &[u8])>
     Some((moment, rest))
 }
 
-/// A line behind its moment, where it has one.
-fn if_timed(moment: u64, line: Line<'_>) -> Option<(u64, Line<'_>)>
-    ensures { option_map (λ p. (p.0, line_shown p.1)) result ≡ if_timed moment (line_shown line.entry) }
+/// The line of a text behind its moment, where it has one.
+fn timed_of<'a>(
+    moment: u64,
+    text: &[u8],
+    moves: &'a mut [Transfer],
+    bytes: &'a mut [u8],
+) -> Option<(u64, Line<'a>)>
+    requires moves { length text.now ≤ length moves.old }
+    requires bytes { length text.now ≤ length bytes.old }
+    ensures { option_map (λ p. (p.0, line_shown p.1)) result ≡ timed_of moment text.now }
 {
+    let line = line_of(text, moves, bytes)?;
     if line.is_timed() {
         Some((moment, line))
     } else {
@@ -254,10 +302,17 @@ fn if_timed(moment: u64, line: Line<'_>) -> Option<(u64, Line<'_>)>
     }
 }
 
-/// A line without a moment in front, where it has none.
-fn if_untimed(line: Line<'_>) -> Option<(u64, Line<'_>)>
-    ensures { option_map (λ p. (p.0, line_shown p.1)) result ≡ if_untimed (line_shown line.entry) }
+/// The line of a text without a moment in front, where it has none.
+fn untimed_of<'a>(
+    text: &[u8],
+    moves: &'a mut [Transfer],
+    bytes: &'a mut [u8],
+) -> Option<(u64, Line<'a>)>
+    requires moves { length text.now ≤ length moves.old }
+    requires bytes { length text.now ≤ length bytes.old }
+    ensures { option_map (λ p. (p.0, line_shown p.1)) result ≡ untimed_of text.now }
 {
+    let line = line_of(text, moves, bytes)?;
     if line.is_timed() {
         None
     } else {
@@ -276,8 +331,8 @@ fn line2_of<'a>(
     ensures { option_map (λ p. (p.0, line_shown p.1)) result ≡ line2_of text.now }
 {
     match moment_of(text) {
-        Some((moment, rest)) => if_timed(moment, line_of(rest, moves, bytes)?),
-        None => if_untimed(line_of(text, moves, bytes)?),
+        Some((moment, rest)) => timed_of(moment, rest, moves, bytes),
+        None => untimed_of(text, moves, bytes),
     }
 }
 

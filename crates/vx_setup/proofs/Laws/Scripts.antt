@@ -1,5 +1,5 @@
 -- The steps of a script, line by line.
-use Rattle.std.proofs.Common.{◌≡◌, ℕ, ◌+◌, List, [], ◌∷◌, ◌++◌, Option, Some, Ok, refl, sym, ap, subst, ◌∙◌, append_assoc}
+use Rattle.std.proofs.Common.{◌≡◌, ℕ, ◌+◌, List, ◌∷◌, ◌++◌, Option, Some, Ok, sym, ap, subst, ◌∙◌, append_assoc}
 use Rattle.vx_script.specs.declared.Step.{Step as LineStep}
 use Rattle.vx_script.specs.declared.Version.{Version}
 use Rattle.vx_script.specs.Command.{Command, step_shown}

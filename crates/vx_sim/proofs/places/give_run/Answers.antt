@@ -88,3 +88,18 @@ returns-clause-gives c =
     let far = c.loop-got.invariant.1 in
     gives-path GivesBy _ (Table c.args.table.now, first_means) (Table c.loop-got.table, c.loop-got.invariant.0)
     (gets-full meaning (Giving GivesBy) c.args.stop c.loop-got.got c.args.room.now c.loop-got.room _ _ far (omega (arith, far.within, far.long))).walk
+
+pub returns-clause-stops : goal.returns-clause-stops
+returns-clause-stops c =
+    let far = c.loop-got.invariant.1 in
+    (gets-full meaning (Giving GivesBy) c.args.stop c.loop-got.got c.args.room.now c.loop-got.room _ _ far (omega (arith, far.within, far.long))).stops
+
+pub returns-clause-within : goal.returns-clause-within
+returns-clause-within c =
+    let far = c.loop-got.invariant.1 in
+    (gets-full meaning (Giving GivesBy) c.args.stop c.loop-got.got c.args.room.now c.loop-got.room _ _ far (omega (arith, far.within, far.long))).within
+
+pub returns-clause-rest : goal.returns-clause-rest
+returns-clause-rest c =
+    let far = c.loop-got.invariant.1 in
+    (gets-full meaning (Giving GivesBy) c.args.stop c.loop-got.got c.args.room.now c.loop-got.room _ _ far (omega (arith, far.within, far.long))).rest

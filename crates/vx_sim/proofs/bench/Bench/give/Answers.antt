@@ -4,7 +4,7 @@ use Rattle.vx_sim.specs.Bench.{talks, holds_get, TalkerGives}
 use Rattle.vx_sim.specs.Attaching.{AreApart}
 use Rattle.vx_sim.specs.Shown.{placed_of}
 use Rattle.vx_sim.proofs.Apart.{held_in_order, held_changed, talker_gave}
-use Rattle.vx_sim.proofs.Finding.{position-shown, nobody-answers}
+use Rattle.vx_sim.proofs.Finding.{position-shown, position-is, nobody-answers}
 use Rattle.vx_sim.proofs.bench.Bench.give.Goals as goal
 
 pub give_at-requires-clause-talks : goal.give_at-requires-clause-talks
@@ -38,3 +38,11 @@ give_at-requires-clause-apart g c = subst (λ ps. AreApart (map placed_of ps)) (
 
 pub give_at-requires-clause-gives : goal.give_at-requires-clause-gives
 give_at-requires-clause-gives g c = ap (holds_get c.args.wire.now) (ap (map placed_of) c.deref_mut.ensures.value ∙ c.self.view_is) ∙ c.requires.gives
+
+pub give_at-requires-clause-within : goal.give_at-requires-clause-within
+give_at-requires-clause-within g c =
+    let talks_first =
+    ap (position (λ p. talks c.args.wire.now (placed_of p))) c.deref_mut.ensures.value
+    ∙ sym (position-shown placed_of (talks c.args.wire.now) c.self.inside.places.items)
+    ∙ ap (position (talks c.args.wire.now)) c.self.view_is ∙ sym c.requires.speaker ∙ c.in-Some.is in
+    (position-is (λ p. talks c.args.wire.now (placed_of p)) c.deref_mut.result.now c.in-Some.index talks_first).1

@@ -25,3 +25,15 @@ returns-clause-gives g c =
 
 pub returns-clause-apart : goal.returns-clause-apart
 returns-clause-apart g c = subst AreApart c.self.view_is c.self.invariant.2.0
+
+pub returns-clause-stops : goal.returns-clause-stops
+returns-clause-stops g c = c.give_many_at.ensures.stops
+
+pub returns-clause-within : goal.returns-clause-within
+returns-clause-within g c = c.give_many_at.ensures.within
+
+pub returns-clause-rest : goal.returns-clause-rest
+returns-clause-rest g c = c.give_many_at.ensures.rest
+
+pub returns-clause-goes : goal.returns-clause-goes
+returns-clause-goes g c = c.give_many_at.ensures.goes

@@ -20,3 +20,6 @@ pub returns-clause-takes : goal.returns-clause-takes
 returns-clause-takes g c =
     held-at placed_of c.args.index (PlaceTakes (take c.take_many_at.result (ended Put c.args.end c.args.bytes.now))) c.self.inside.places c.args.self.now c.deref_mut.result.now c.take_many_at.new.places
     c.deref_mut.ensures.value (omega arith) c.self.view_is c.take_many_at.ensures.takes
+
+pub returns-clause-within : goal.returns-clause-within
+returns-clause-within g c = c.take_many_at.ensures.within

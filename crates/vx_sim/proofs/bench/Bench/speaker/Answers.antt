@@ -7,7 +7,7 @@ use Rattle.vx_sim.proofs.bench.Bench.speaker.Goals as goal
 
 pub returns : goal.returns
 returns g c =
-    c.first_to_talk.ensures.first
+    c.first_place.ensures.first
     ∙ ap (position (λ p. talks c.args.wire.now (placed_of p))) c.deref.ensures.value
     ∙ sym (position-shown placed_of (talks c.args.wire.now) c.self.inside.places.items)
     ∙ ap (position (talks c.args.wire.now)) c.self.view_is

@@ -33,3 +33,15 @@ returns-clause-gives g c =
     c.note_givings.ensures
     ∙ ap (λ ds. calls ++ ds) (sym (gave-room got room c.give_many-many.result.stop (omega (arith, c.give_many-many.ensures.within, c.give_many-many.auto.room)))) in
     seat-gives _ _ calls _ _ steps old new c.self.view_is c.give_many-many.ensures.gives noted
+
+pub returns-clause-stops : goal.returns-clause-stops
+returns-clause-stops g c = c.give_many-many.ensures.stops
+
+pub returns-clause-within : goal.returns-clause-within
+returns-clause-within g c = c.give_many-many.ensures.within
+
+pub returns-clause-rest : goal.returns-clause-rest
+returns-clause-rest g c = c.give_many-many.ensures.rest
+
+pub returns-clause-goes : goal.returns-clause-goes
+returns-clause-goes g c = c.give_many-many.ensures.goes

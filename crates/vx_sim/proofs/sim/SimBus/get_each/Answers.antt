@@ -4,7 +4,7 @@ use Rattle.vx_488.specs.declared.transfers.Transfer.TheVariants.{Got}
 use Rattle.vx_bus_traits.specs.declared.asks.GetOut.TheVariants as get
 use Rattle.vx_bus_traits.specs.Steps.{Went, get_step}
 use Rattle.vx_bus_traits.specs.Walks.{StepsTo}
-use Rattle.vx_bus_traits.proofs.Laws.Gets.{gets-held, gets-failed, gets-end, gets-char, gets-next, char-is}
+use Rattle.vx_bus_traits.proofs.Laws.Gets.{gets-held, gets-failed, gets-end, gets-char, gets-next, gets-full, char-is}
 use Rattle.vx_sim.specs.SimState.{SimState, Through}
 use Rattle.vx_sim.proofs.Stepping.{steps-to}
 use Rattle.vx_sim.proofs.sim.SimBus.get_each.Goals as goal
@@ -40,3 +40,19 @@ loop-got-preserved g c =
           (subst S c.if-end.false (steps-to c.loop-got.self c.get_from.new.self (get_step (get.Byte c.in-Byte.b c.in-Byte.end)) c.in-Byte.ensures.through)),
       c.in-Byte.ensures.speaker,
     )
+
+pub returns-clause-walk : goal.returns-clause-walk
+returns-clause-walk g c =
+    (gets-full (λ s. s.means) Through c.args.stop c.loop-got.got c.args.room.now c.loop-got.room _ _ c.loop-got.invariant.0 (omega (arith, c.loop-got.invariant.0.within, c.loop-got.invariant.0.long))).walk
+
+pub returns-clause-stops : goal.returns-clause-stops
+returns-clause-stops g c =
+    (gets-full (λ s. s.means) Through c.args.stop c.loop-got.got c.args.room.now c.loop-got.room _ _ c.loop-got.invariant.0 (omega (arith, c.loop-got.invariant.0.within, c.loop-got.invariant.0.long))).stops
+
+pub returns-clause-within : goal.returns-clause-within
+returns-clause-within g c =
+    (gets-full (λ s. s.means) Through c.args.stop c.loop-got.got c.args.room.now c.loop-got.room _ _ c.loop-got.invariant.0 (omega (arith, c.loop-got.invariant.0.within, c.loop-got.invariant.0.long))).within
+
+pub returns-clause-rest : goal.returns-clause-rest
+returns-clause-rest g c =
+    (gets-full (λ s. s.means) Through c.args.stop c.loop-got.got c.args.room.now c.loop-got.room _ _ c.loop-got.invariant.0 (omega (arith, c.loop-got.invariant.0.within, c.loop-got.invariant.0.long))).rest

@@ -20,3 +20,12 @@ returns-clause-walk g c =
     subst From c.self.view_is
     (subst (To _) (sym c.carried_gets.ensures)
     (gets-walk steps _ c.give_run-many.new.self (ap (λ (s : SimState). s.failing) c.self.view_is ∙ c.requires.ordered) goes))
+
+pub returns-clause-stops : goal.returns-clause-stops
+returns-clause-stops g c = c.give_run-many.ensures.stops
+
+pub returns-clause-within : goal.returns-clause-within
+returns-clause-within g c = c.give_run-many.ensures.within
+
+pub returns-clause-rest : goal.returns-clause-rest
+returns-clause-rest g c = c.give_run-many.ensures.rest
