@@ -1,12 +1,15 @@
 -- The results that a record tells.
-use Rattle.std.proofs.Common.{◌≡◌, ℕ, Bool, true, false, ◌&&◌, ◌++◌, take, ◌<◌, ◌≤◌, List, [], ◌∷◌, length, drop, Option, Some, None, IfSome, refl, sym, ap, ◌∙◌, subst, arith, length-take}
+use Rattle.std.proofs.Common.{◌≡◌, ℕ, Bool, true, false, ◌&&◌, ◌++◌, take, ◌<◌, ◌≤◌, List, [], ◌∷◌, length, drop, Option, Some, None, IfSome, option_map, refl, sym, ap, ◌∙◌, subst, arith, length-take}
 use Rattle.vx_codec.specs.Answered.{Outcome, Form, Nothing, LinkMade, Written, ReadData, Status, CommandData, ErrorAlone, Answers, results_shown}
 use Rattle.vx_codec.specs.declared.results.Results.{Results}
+use Rattle.vx_codec.specs.Answered as told
+use Rattle.vx_calls.specs.Reply as reply
 use Rattle.std.specs.Str.{bytes_eq}
 use Rattle.std.proofs.lemmas.Bool.{and_from}
 use Rattle.std.proofs.lemmas.Slice.Eq.{bytes_eq-Decides}
 use Rattle.std.proofs.lemmas.List.{take-append-drop}
 use Rattle.vx_lemmas.proofs.Laws.Conditions.{same_bytes}
+use Rattle.vx_history.specs.Replies.{error_of, error_told, reply_told}
 use Rattle.vx_history.specs.Spelling.{IsPuttableOutcome}
 
 -- results that bytes spell can be written
@@ -24,6 +27,16 @@ answers-puttable CommandData o bytes ((error, (data_, end)), is, (a, b, first, (
 pub some-puttable : (form : Form) (found : Option Results) (bytes : List ℕ) → IfSome found (λ r. Answers form (results_shown r) bytes) → IfSome found (λ r. IsPuttableOutcome (results_shown r))
 some-puttable form None bytes spells = tt
 some-puttable form (Some r) bytes spells = answers-puttable form (results_shown r) bytes spells
+
+-- results whose error is none tell no reply
+pub told-none : (o : Outcome) → error_of (error_told o) ≡ None → None ≡ reply_told o
+told-none told.Null none = cc
+told-none (told.CreateLink error lid abort_port max) none = sym (ap (option_map (λ e. reply.CreateLink e lid abort_port max)) none)
+told-none (told.Write error size) none = sym (ap (option_map (λ e. reply.Write e size)) none)
+told-none (told.Read error reason bytes) none = sym (ap (option_map (λ e. reply.Read e reason bytes)) none)
+told-none (told.Stb error stb) none = sym (ap (option_map (λ e. reply.Stb e stb)) none)
+told-none (told.Docmd error bytes) none = sym (ap (option_map (λ e. reply.Docmd e bytes)) none)
+told-none (told.Error error) none = sym (ap (option_map (λ e. reply.Error e)) none)
 
 -- two tests of which each passes where the other does are one
 same-test : (p q : Bool) → (p ≡ true → q ≡ true) → (q ≡ true → p ≡ true) → p ≡ q

@@ -16,7 +16,7 @@ pub enum Cause {
 }
 
 /// Why a line isn't taken, or can't be looked at.
-#[derive(Clone, Copy, PartialEq, Eq)]
+#[derive(Clone, Copy)]
 pub(crate) enum Stop {
     Spoiled(Cause),
     NoMemory,

@@ -94,22 +94,31 @@ fn walk_in(checker: &mut Checker, text: &[u8], moves: &mut [Transfer], bytes: &m
     }
 }
 
-/// Takes the lines of a text that end at an LF.
-pub fn walk(alloc: Global, text: &[u8]) -> Far
-    requires { length text.now < 2 ^ 31 }
+/// Takes the lines of a text that end at an LF, with a checker that begins.
+fn walk_with(alloc: Global, checker: &mut Checker, text: &[u8]) -> Far
+    requires begins { checker_shown checker.old ≡ beginning }
+    requires short { length text.now < 2 ^ 31 }
     ensures { EndsWalk (whole_lines text.now) result }
 {
     let most = longest(text);
-    let Ok(mut checker) = Checker::new(alloc) else {
-        return Far::NoMemory;
-    };
     let Ok(mut moves) = vec![in alloc; Transfer::Ifc; most] else {
         return Far::NoMemory;
     };
     let Ok(mut bytes) = zeros(alloc, most) else {
         return Far::NoMemory;
     };
-    walk_in(&mut checker, text, &mut moves, &mut bytes)
+    walk_in(checker, text, &mut moves, &mut bytes)
+}
+
+/// Takes the lines of a text that end at an LF.
+pub fn walk(alloc: Global, text: &[u8]) -> Far
+    requires { length text.now < 2 ^ 31 }
+    ensures { EndsWalk (whole_lines text.now) result }
+{
+    match Checker::new(alloc) {
+        Ok(mut checker) => walk_with(alloc, &mut checker, text),
+        Err(_) => Far::NoMemory,
+    }
 }
 
 /// Whether a text ends at an LF, or has nothing.

@@ -1,6 +1,6 @@
 //! The replies and the interrupt calls that records spell. A record spells what is read in it where writing that again gives the same
 //! bytes.
-ghost use Rattle.std.specs.Prelude.{◌≡◌, ◌≤◌, ◌<◌, ◌^◌, ◌++◌, length, take, drop, ◌&&◌, option_map, IfOk, IfSome, MatchOption};
+ghost use Rattle.std.specs.Prelude.{◌≡◌, ◌≤◌, ◌<◌, ◌^◌, ◌++◌, length, take, drop, ◌&&◌, option_map, Some, IfOk, IfSome, MatchOption};
 ghost use Rattle.std.specs.Result.{result_ok};
 ghost use Rattle.std.specs.Str.{bytes_eq};
 ghost use Rattle.vx_calls.specs.declared.limits.TheConstants.{HANDLE_MAX};
@@ -107,41 +107,47 @@ pub(crate) fn error_told(told: &Results<'_>) -> u32
     }
 }
 
+/// The reply with these results, whose error is this.
+fn reply_with<'a>(error: ErrorCode, told: Results<'a>) -> ReplyRef<'a>
+    requires error { error_of (error_told (results_shown told)) ≡ Some error }
+    requires puttable { IsPuttableOutcome (results_shown told) }
+    ensures told { Some (reply_shown result) ≡ reply_told (results_shown told.entry) }
+    ensures puttable { IsPuttableReply (reply_shown result) }
+{
+    match told {
+        Results::Null => ReplyRef::Null,
+        Results::CreateLink {
+            lid,
+            abort_port,
+            max,
+            ..
+        } => ReplyRef::CreateLink {
+            error,
+            lid,
+            abort_port,
+            max,
+        },
+        Results::Write { size, .. } => ReplyRef::Write { error, size },
+        Results::Read { reason, bytes, .. } => ReplyRef::Read {
+            error,
+            reason,
+            bytes,
+        },
+        Results::Stb { stb, .. } => ReplyRef::Stb { error, stb },
+        Results::Docmd { bytes, .. } => ReplyRef::Docmd { error, bytes },
+        Results::Error { .. } => ReplyRef::Error { error },
+    }
+}
+
 /// The reply with these results, where their error is one.
 fn reply_told<'a>(told: Results<'a>) -> Option<ReplyRef<'a>>
     requires { IsPuttableOutcome (results_shown told) }
     ensures told { option_map reply_shown result ≡ reply_told (results_shown told.entry) }
     ensures puttable { IfSome result (λ reply. IsPuttableReply (reply_shown reply)) }
 {
-    let error = error_of(error_told(&told));
-    match told {
-        Results::Null => Some(ReplyRef::Null),
-        Results::CreateLink {
-            lid,
-            abort_port,
-            max,
-            ..
-        } => Some(ReplyRef::CreateLink {
-            error: error?,
-            lid,
-            abort_port,
-            max,
-        }),
-        Results::Write { size, .. } => Some(ReplyRef::Write {
-            error: error?,
-            size,
-        }),
-        Results::Read { reason, bytes, .. } => Some(ReplyRef::Read {
-            error: error?,
-            reason,
-            bytes,
-        }),
-        Results::Stb { stb, .. } => Some(ReplyRef::Stb { error: error?, stb }),
-        Results::Docmd { bytes, .. } => Some(ReplyRef::Docmd {
-            error: error?,
-            bytes,
-        }),
-        Results::Error { .. } => Some(ReplyRef::Error { error: error? }),
+    match error_of(error_told(&told)) {
+        Some(error) => Some(reply_with(error, told)),
+        None => None,
     }
 }
 

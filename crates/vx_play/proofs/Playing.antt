@@ -12,7 +12,7 @@ use Rattle.vx_script.specs.declared.Version.{Version}
 use Rattle.vx_script.specs.declared.Version.TheVariants as version
 use Rattle.vx_script.specs.Command.{Command, At, step_shown}
 use Rattle.vx_script.specs.declared.Step.{Step}
-use Rattle.vx_script.specs.Grammar.{reading}
+use Rattle.vx_script.specs.Grammar.{Reading, Skipped, Does, Outside, reading}
 use Rattle.vx_script.specs.Timed.{Timed, Blank, DoesAt, Strange, timed}
 use Rattle.vx_script.specs.Reads.{Reads, ReadsAt}
 use Rattle.vx_setup.specs.Script.{commands, commands_read, commands_timed}
@@ -210,6 +210,15 @@ timed-said line found moment step reads some =
       by Blank reads = absurd reads
       by (DoesAt m command) reads = ap (λ n. DoesAt n command) (sym reads.0) ∙ ap (DoesAt moment) (sym reads.1)
       by Strange reads = absurd reads
+
+-- a line of version 1 that is refused is outside the grammar
+pub plain-strange : (line : List ℕ) (why : Cause) (stage : Stage) (player : PlayerState) (ends : End) → Reads (reading line) (Err why)
+    → PlayEndsLine version.One (commands version.One line) stage player ends ends (line_end.Refused why)
+plain-strange line why stage player ends reads = by (reading line) reads where
+  by : (says : Reading) → Reads says (Err why) → PlayEndsLine version.One (commands_read says) stage player ends ends (line_end.Refused why)
+  by Skipped reads = absurd reads
+  by (Does command) reads = absurd reads
+  by Outside reads = inl (record { outside = refl; form = reads; unwritten = Appends-nil ends.bytes })
 
 -- a line of version 2 that is refused is outside the grammar
 pub strange-ended : (line : List ℕ) (why : Cause) (stage : Stage) (player : PlayerState) (ends : End) → ReadsAt (timed line) (Err why)

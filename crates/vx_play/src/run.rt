@@ -422,6 +422,24 @@ fn make_over<I: Instrument, K: Sink>(
     }
 }
 
+/// Takes the steps of a run with a player that begins, and writes its lines behind the first, by a printer that is made for it.
+fn make_with<I: Instrument, K: Sink>(
+    alloc: Global,
+    ask: Ask,
+    player: &mut Player<I>,
+    sink: &mut K,
+) -> PlayStatus
+    requires begins { PlayerStands player.old (beginning player.old.rack) }
+    requires steps { ask.steps ≤ 1000000 }
+    ensures ended { (rack : List SpareShown) → player.old.rack ≡ rack → EndsSteps ask rack
+        (sink_shown K.Sink sink.old) (sink_shown K.Sink sink.new) result }
+{
+    match Printer::new(alloc) {
+        Ok(mut printer) => make_over(alloc, ask, player, &mut printer, sink),
+        Err(_) => PlayStatus::NoMemory,
+    }
+}
+
 /// Takes the steps of a run with these spare instruments, and writes its lines behind the first.
 fn make_steps<I: Instrument, K: Sink>(
     alloc: Global,
@@ -433,11 +451,8 @@ fn make_steps<I: Instrument, K: Sink>(
     ensures ended { EndsSteps ask (map (spare_shown (handed_in (λ i. I.behaves i) (λ i. I.nature i))) rack.items)
         (sink_shown K.Sink sink.old) (sink_shown K.Sink sink.new) result }
 {
-    let Ok(mut printer) = Printer::new(alloc) else {
-        return PlayStatus::NoMemory;
-    };
     match Player::new(alloc, rack) {
-        Ok(mut player) => make_over(alloc, ask, &mut player, &mut printer, sink),
+        Ok(mut player) => make_with(alloc, ask, &mut player, sink),
         Err(_) => PlayStatus::NoMemory,
     }
 }
@@ -460,7 +475,7 @@ fn make_run<I: Instrument, K: Sink>(
 }
 
 /// What words ask for that read the source.
-#[derive(Clone, Copy, PartialEq, Eq)]
+#[derive(Clone, Copy)]
 pub enum Order {
     /// A script is played.
     Play,

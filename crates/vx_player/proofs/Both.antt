@@ -21,6 +21,16 @@ left-behind room new m len all front within =
     let d = length-take (length (new ++ drop m room) - len) (drop len (new ++ drop m room)) in
     omega arith
 
+-- both are within the room
+pub both-within : (new rest written tail : List ℕ) (len more : ℕ) → len ≤ length new → more ≤ length written
+    → len + more ≤ length (take len (new ++ rest) ++ (written ++ tail))
+both-within new rest written tail len more within fits =
+    let all = length-append (take len (new ++ rest)) (written ++ tail) in
+    let behind = length-append written tail in
+    let front = length-take len (new ++ rest) in
+    let whole = length-append new rest in
+    omega arith
+
 -- the first text, and what was written behind it
 pub both-taken : (new rest written tail first second : List ℕ) (len more : ℕ) → len ≤ length new → take len new ≡ first → take more written ≡ second
     → more ≤ length written → take (len + more) (take len (new ++ rest) ++ (written ++ tail)) ≡ first ++ second

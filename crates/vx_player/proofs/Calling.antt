@@ -32,6 +32,9 @@ use Rattle.vx_player.specs.declared.note.Note.{Note}
 use Rattle.vx_player.specs.declared.note.Note.TheVariants as note
 use Rattle.vx_player.specs.Gateway.{Gateway, gateway_of, Happens}
 use Rattle.vx_player.specs.Stage.{Stage, tables_of, refusal}
+use Rattle.vx_player.specs.Wanting.{StopsFor}
+use Rattle.vx_setup.specs.declared.stops.Refusal.{Refusal}
+use Rattle.vx_setup.specs.declared.stops.Refusal.TheVariants as stop
 use Rattle.vx_exchange.specs.Meaning.{reply_record}
 use Rattle.vx_exchange.specs.declared.polls.DialAnswered.{DialAnswered}
 use Rattle.vx_exchange.specs.Doing.{Settles}
@@ -161,6 +164,19 @@ pub dial-unknown : (p : PlayerState) (stage : Stage) (conn : ℕ) (up : Bool) �
 dial-unknown p stage conn up stands unknown =
     let lives = at-stage p stage (λ f. lives_as f.state.tables conn role.Core) false stands unknown in
     cond-true _ (Some cause.Conn) (cond (list_any (λ n. n == conn) stage.gateway.interleaved.dialed) None (Some cause.Idle)) (ap not lives)
+
+-- so a step there stops for that
+pub poll-stranger : (p : PlayerState) (stage : Stage) (conn : ℕ) (why : Refusal) → PlayerStands p stage
+    → (why ≡ stop.Refused cause.Conn) × (lives_as p.core.interleaved.state.tables conn role.Core ≡ false) → StopsFor stage (Poll conn) why
+poll-stranger p stage conn why stands told = subst (StopsFor stage (Poll conn)) (sym told.0) (poll-unknown p stage conn stands told.1)
+
+pub take-stranger : (p : PlayerState) (stage : Stage) (conn : ℕ) (why : Refusal) → PlayerStands p stage
+    → (why ≡ stop.Refused cause.Conn) × (lives_as p.core.interleaved.state.tables conn role.Core ≡ false) → StopsFor stage (Take conn) why
+take-stranger p stage conn why stands told = subst (StopsFor stage (Take conn)) (sym told.0) (take-unknown p stage conn stands told.1)
+
+pub dial-stranger : (p : PlayerState) (stage : Stage) (conn : ℕ) (up : Bool) (why : Refusal) → PlayerStands p stage
+    → (why ≡ stop.Refused cause.Conn) × (lives_as p.core.interleaved.state.tables conn role.Core ≡ false) → StopsFor stage (Dial conn up) why
+dial-stranger p stage conn up why stands told = subst (StopsFor stage (Dial conn up)) (sym told.0) (dial-unknown p stage conn up stands told.1)
 
 -- one without a call, and one whose call asked for no dial
 pub poll-idle : (p : PlayerState) (stage : Stage) (conn : ℕ) → PlayerStands p stage → lives_as p.core.interleaved.state.tables conn role.Core ≡ true

@@ -7,7 +7,7 @@ use vx_core::Why;
 use vx_exchange::PollEnd;
 
 /// How a connection ended.
-#[derive(Clone, Copy, PartialEq, Eq)]
+#[derive(Clone, Copy)]
 pub enum Gone {
     /// By a `down` line.
     Down,

@@ -281,8 +281,11 @@ impl<I: Instrument> Player<I> {
         ensures stopped { IfErr result (λ stop. (stage : Stage) → PlayerStands self.old stage → StopsFor stage (Poll conn) stop) }
         ensures printable { IfOk result (HasLineRoom self.new) }
     {
-        self.core_only(conn)?;
-        if !self.core.pending(conn) {
+        match self.core_only(conn) {
+            Ok(()) => {}
+            Err(stop) => return Err(stop),
+        }
+        if !self.is_pending(conn) {
             return Err(Refusal::Refused(Cause::Idle));
         }
         let xid = self.xid(conn);
@@ -308,7 +311,10 @@ impl<I: Instrument> Player<I> {
         ensures stopped { IfErr result (λ stop. (stage : Stage) → PlayerStands self.old stage → StopsFor stage (Take conn) stop) }
         ensures printable { IfOk result (HasLineRoom self.new) }
     {
-        self.core_only(conn)?;
+        match self.core_only(conn) {
+            Ok(()) => {}
+            Err(stop) => return Err(stop),
+        }
         let Some(chan) = self.core.channel(conn) else {
             return Ok(StepMade::of(Note::NoChannel { conn }));
         };
@@ -329,7 +335,10 @@ impl<I: Instrument> Player<I> {
         ensures stopped { IfErr result (λ stop. (stage : Stage) → PlayerStands self.old stage → StopsFor stage (Dial conn up) stop) }
         ensures printable { IfOk result (HasLineRoom self.new) }
     {
-        self.core_only(conn)?;
+        match self.core_only(conn) {
+            Ok(()) => {}
+            Err(stop) => return Err(stop),
+        }
         if !self.core.dialing(conn) {
             return Err(Refusal::Refused(Cause::Idle));
         }

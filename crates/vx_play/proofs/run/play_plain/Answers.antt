@@ -1,7 +1,8 @@
 use Rattle.std.proofs.Common.{ap}
+use Rattle.vx_text.specs.Ends.{sink_shown}
 use Rattle.vx_script.specs.Command.{step_shown}
 use Rattle.vx_setup.specs.Script.{commands_read}
-use Rattle.vx_play.proofs.Playing.{plain-said, plain-ended, nothing-ended}
+use Rattle.vx_play.proofs.Playing.{plain-said, plain-ended, plain-strange, nothing-ended}
 use Rattle.vx_play.proofs.run.play_plain.Goals as goal
 
 pub returns-in-Ok-Some-clause-ended : goal.returns-in-Ok-Some-clause-ended
@@ -12,3 +13,7 @@ returns-in-Ok-Some-clause-ended g c = λ stage stands.
 pub returns-in-Ok-None-clause-ended : goal.returns-in-Ok-None-clause-ended
 returns-in-Ok-None-clause-ended g c = λ stage stands.
     nothing-ended _ _ stage _ _ (ap commands_read (c.in-Ok-None.ensures.skipped.0 (cc))) stands
+
+pub returns-in-Err-clause-ended : goal.returns-in-Err-clause-ended
+returns-in-Err-clause-ended g c = λ stage stands. plain-strange c.args.line.now c.in-Err.cause stage c.args.player.now
+    (sink_shown g.K.Sink c.args.sink.now) c.in-Err.ensures.reads

@@ -1,7 +1,7 @@
 use Rattle.std.proofs.Common.{◌≡◌, length, sym, arith}
 use Rattle.std.proofs.lemmas.List.{length-take-le}
 use Rattle.vx_player.specs.declared.printer.TheConstants.{BEGUN_ROOM, HEAD_ROOM, NOTE_ROOM, TEXT_ROOM}
-use Rattle.vx_player.proofs.Both.{writable-more, left-behind, both-taken}
+use Rattle.vx_player.proofs.Both.{writable-more, left-behind, both-taken, both-within}
 use Rattle.vx_player.proofs.printer.put_four.Goals as goal
 
 pub put_two-len-requires-clause-front : goal.put_two-len-requires-clause-front
@@ -44,6 +44,15 @@ pub returns-clause-text : goal.returns-clause-text
 returns-clause-text c =
     both-taken c.put_two-len.new.room _ c.put_two-more.new.room _ _ _ c.put_two-len.result c.put_two-more.result c.put_two-len.ensures.within c.put_two-len.ensures.text
     c.put_two-more.ensures.text c.put_two-more.ensures.within
+
+pub returns-clause-within : goal.returns-clause-within
+returns-clause-within c =
+    both-within c.put_two-len.new.room _ c.put_two-more.new.room _ c.put_two-len.result c.put_two-more.result c.put_two-len.ensures.within c.put_two-more.ensures.within
+
+pub slice_bounds-put_two-end : goal.slice_bounds-put_two-end
+slice_bounds-put_two-end c =
+    let all : length c.args.room.now ≡ TEXT_ROOM = c.requires.room in
+    omega arith
 
 pub slice_bounds-put_two-end-2 : goal.slice_bounds-put_two-end-2
 slice_bounds-put_two-end-2 c =

@@ -38,3 +38,33 @@ returns-in-Set-clause-taken g c = rw c.in-Set.is c.set.ensures.taken
 
 pub returns-in-Fail-clause-taken : goal.returns-in-Fail-clause-taken
 returns-in-Fail-clause-taken g c = rw c.in-Fail.is c.fail.ensures.taken
+
+pub returns-in-Up-clause-stopped : goal.returns-in-Up-clause-stopped
+returns-in-Up-clause-stopped g c = rw c.in-Up.is c.up.ensures.stopped
+
+pub returns-in-In-clause-stopped : goal.returns-in-In-clause-stopped
+returns-in-In-clause-stopped g c = rw c.in-In.is c.piece.ensures.stopped
+
+pub returns-in-Down-clause-stopped : goal.returns-in-Down-clause-stopped
+returns-in-Down-clause-stopped g c = rw c.in-Down.is c.down.ensures.stopped
+
+pub returns-in-Poll-clause-stopped : goal.returns-in-Poll-clause-stopped
+returns-in-Poll-clause-stopped g c = rw c.in-Poll.is c.poll.ensures.stopped
+
+pub returns-in-Take-clause-stopped : goal.returns-in-Take-clause-stopped
+returns-in-Take-clause-stopped g c = rw c.in-Take.is c.take.ensures.stopped
+
+pub returns-in-Dial-clause-stopped : goal.returns-in-Dial-clause-stopped
+returns-in-Dial-clause-stopped g c = rw c.in-Dial.is c.dial.ensures.stopped
+
+pub returns-in-Inst-clause-stopped : goal.returns-in-Inst-clause-stopped
+returns-in-Inst-clause-stopped g c = rw c.in-Inst.is c.inst.ensures.stopped
+
+pub returns-in-Plug-clause-stopped : goal.returns-in-Plug-clause-stopped
+returns-in-Plug-clause-stopped g c = rw c.in-Plug.is c.plug.ensures.stopped
+
+pub returns-in-Pull-clause-stopped : goal.returns-in-Pull-clause-stopped
+returns-in-Pull-clause-stopped g c = rw c.in-Pull.is c.pull.ensures.stopped
+
+pub returns-in-Set-clause-stopped : goal.returns-in-Set-clause-stopped
+returns-in-Set-clause-stopped g c = rw c.in-Set.is c.set.ensures.stopped

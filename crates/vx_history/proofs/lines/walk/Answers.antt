@@ -1,4 +1,0 @@
-use Rattle.vx_history.proofs.lines.walk.Goals as goal
-
-pub returns : goal.returns
-returns c = c.walk_in.ensures
