@@ -127,3 +127,12 @@ gain_shown room seen.Done = Done
 abbrev pub result_shown : List ℕ → Result declared.Gained ClientErr → Result Gain ClientErr
 result_shown room (Ok g) = Ok (gain_shown room g)
 result_shown room (Err e) = Err e
+
+-- what the code's own value is of a call that has no results, and of one that has a status byte
+abbrev pub done_of : Result Unit ClientErr → Result declared.Gained ClientErr
+done_of (Ok u) = Ok seen.Done
+done_of (Err e) = Err e
+
+abbrev pub status_of : Result ℕ ClientErr → Result declared.Gained ClientErr
+status_of (Ok byte) = Ok (seen.Status byte)
+status_of (Err e) = Err e

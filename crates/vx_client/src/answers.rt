@@ -25,7 +25,7 @@ pub enum ClientErr {
 }
 
 /// The flags and the timeouts, in milliseconds, that most calls send.
-#[derive(Clone, Copy, PartialEq, Eq)]
+#[derive(Clone, Copy)]
 pub struct CallOpts {
     /// 0x01 waitlock, 0x08 end, 0x80 termchrset (VXI-11, Device_Flags).
     pub flags: u32,

@@ -2,7 +2,7 @@
 
 ghost use Rattle.std.specs.Prelude.{◌≡◌, ◌≤◌, false, length, IfOk};
 ghost use Rattle.vx_client.specs.Asked.{line_sent, command_shown};
-ghost use Rattle.vx_client.specs.Gaining.{ReadsAll, Performs, ClientAsks, result_shown, IsClientWithin, IsAnswer};
+ghost use Rattle.vx_client.specs.Gaining.{ReadsAll, SendsLine, Performs, done_of, status_of, ClientAsks, result_shown, IsClientWithin, IsAnswer};
 
 use crate::answers::{CallOpts, ClientErr, LinkMade};
 use crate::client::Client;
@@ -48,6 +48,45 @@ fn read<L: Link>(client: &mut Client<L>, lid: u32, room: &mut [u8]) -> Result<Ga
     Ok(Gained::Bytes(end.len))
 }
 
+/// Writes a line, and then reads into the room.
+fn query<L: Link>(
+    client: &mut Client<L>,
+    made: &LinkMade,
+    line: &[u8],
+    room: &mut [u8],
+) -> Result<Gained, ClientErr>
+    requires max { 1 ≤ made.now.max }
+    requires room { length room.old ≡ GAIN_MAX }
+    ensures sent { SendsLine L.stands L.left L.receive_faults L.send_faults client.old client.new made.now line.now (result_shown room.new result)
+        (λ mid. ReadsAll L.stands L.left L.receive_faults L.send_faults mid client.new made.now.lid (result_shown room.new result)) }
+    ensures within { IfOk result (IsClientWithin (length room.new)) }
+{
+    match client.write(made, &WITH_END, line) {
+        Ok(()) => read(client, made.lid, room),
+        Err(error) => Err(error),
+    }
+}
+
+/// What a call gained that has no results.
+fn done(answer: Result<(), ClientErr>) -> Result<Gained, ClientErr>
+    ensures { result ≡ done_of answer }
+{
+    match answer {
+        Ok(()) => Ok(Gained::Done),
+        Err(error) => Err(error),
+    }
+}
+
+/// What a call gained that has a status byte.
+fn status(answer: Result<u8, ClientErr>) -> Result<Gained, ClientErr>
+    ensures { result ≡ status_of answer }
+{
+    match answer {
+        Ok(byte) => Ok(Gained::Status(byte)),
+        Err(error) => Err(error),
+    }
+}
+
 /// Does a command over a link. `line` is what it writes.
 fn perform<L: Link>(
     client: &mut Client<L>,
@@ -63,24 +102,12 @@ fn perform<L: Link>(
     ensures within { IfOk result (IsClientWithin (length room.new)) }
 {
     match command {
-        Command::Query(_) => {
-            client.write(made, &WITH_END, line)?;
-            read(client, made.lid, room)
-        }
-        Command::Write(_) => {
-            client.write(made, &WITH_END, line)?;
-            Ok(Gained::Done)
-        }
+        Command::Query(_) => query(client, made, line, room),
+        Command::Write(_) => done(client.write(made, &WITH_END, line)),
         Command::Read => read(client, made.lid, room),
-        Command::Stb => Ok(Gained::Status(client.readstb(made.lid, &PLAIN)?)),
-        Command::Clear => {
-            client.clear(made.lid, &PLAIN)?;
-            Ok(Gained::Done)
-        }
-        Command::Trigger => {
-            client.trigger(made.lid, &PLAIN)?;
-            Ok(Gained::Done)
-        }
+        Command::Stb => status(client.readstb(made.lid, &PLAIN)),
+        Command::Clear => done(client.clear(made.lid, &PLAIN)),
+        Command::Trigger => done(client.trigger(made.lid, &PLAIN)),
     }
 }
 

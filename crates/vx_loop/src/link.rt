@@ -85,6 +85,16 @@ impl<I: Instrument> LoopLink<I> {
             send_faults: 0,
         }
     }
+
+    /// Lets a link go that has no gateway.
+    pub(crate) fn let_go(self)
+        requires { self.served ≡ None }
+    {
+        match self.served {
+            None => {}
+            Some(_) => unreachable!(),
+        }
+    }
 }
 
 impl<I: Instrument> Link for LoopLink<I> {

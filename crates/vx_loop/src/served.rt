@@ -166,7 +166,7 @@ impl<I: Instrument> Serving<I> {
         ensures there { result ≡ false → IsSome (connection_at self.now.core.interleaved.state.tables 1) }
         ensures lives { result ≡ false → pending_at self.now.core.interleaved.state.tables 1 ≡ None → lives_as self.now.core.interleaved.state.tables 1 role.Core ≡ true }
     {
-        !self.core.pending(CONN) && !matches!(self.core.role(CONN), Some(Role::Core))
+        !self.is_waiting() && !matches!(self.core.role(CONN), Some(Role::Core))
     }
 
     /// Whether the connection has ended.
@@ -207,7 +207,7 @@ impl<I: Instrument> Serving<I> {
         ensures idle { result ≡ false → (pending_at self.now.core.interleaved.state.tables 1 ≡ None) × (self.now.left ≡ []) }
         ensures busy { result ≡ true → is_some (pending_at self.now.core.interleaved.state.tables 1) ≡ true ⊎ 0 < length self.now.left }
     {
-        self.core.pending(CONN) || self.has_left()
+        self.is_waiting() || self.has_left()
     }
 
     /// Takes bytes up to the end of a record, which is served, and answers how many. There are none where they end a

@@ -26,11 +26,12 @@ use vx_inst::Instrument;
 /// All flags but END (VXI-11, Device_Flags).
 const NO_END: u32 = 0xFFFF_FFF7;
 
-/// Puts a link in the place of another, which is dropped.
+/// Puts a link in the place of one that has no gateway.
 fn put_back<I: Instrument>(place: &mut LoopLink<I>, link: LoopLink<I>)
+    requires { place.old.served ≡ None }
     ensures { place.new ≡ link }
 {
-    *place = link;
+    replace(place, link).let_go();
 }
 
 /// One device_write over a link that stands aside from the client's own, which is looked at from its state before.
@@ -86,6 +87,7 @@ fn write_piece<I: Instrument>(
     let result = write_marked::<I, Brand>(client, &mut link, lid, opts, flags, bytes);
     link.is_kept();
     client.swap_link(&mut link);
+    link.let_go();
     result
 }
 

@@ -33,7 +33,9 @@ impl Asker {
     pub fn new(alloc: Global) -> Result<Asker, NoMemory>
         ensures { IfOk result (λ asker. asker ≡ fresh) }
     {
-        let body = Body::new(alloc).map_err(|_| NoMemory)?;
+        let Ok(body) = Body::new(alloc) else {
+            return Err(NoMemory);
+        };
         Ok(Asker { body })
     }
 }

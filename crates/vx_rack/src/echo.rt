@@ -29,7 +29,9 @@ impl Echo {
     pub fn new(alloc: Global) -> Result<Echo, NoMemory>
         ensures { IfOk result (λ echo. echo ≡ fresh) }
     {
-        let body = Body::new(alloc).map_err(|_| NoMemory)?;
+        let Ok(body) = Body::new(alloc) else {
+            return Err(NoMemory);
+        };
         Ok(Echo { body })
     }
 }

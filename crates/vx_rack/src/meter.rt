@@ -32,7 +32,9 @@ impl Meter {
     pub fn new(alloc: Global) -> Result<Meter, NoMemory>
         ensures { IfOk result (λ meter. meter ≡ fresh_meter) }
     {
-        let body = Body::new(alloc).map_err(|_| NoMemory)?;
+        let Ok(body) = Body::new(alloc) else {
+            return Err(NoMemory);
+        };
         Ok(Meter { body, count: 0 })
     }
 

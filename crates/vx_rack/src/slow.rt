@@ -37,7 +37,9 @@ impl Slow {
     pub fn new(alloc: Global) -> Result<Slow, NoMemory>
         ensures { IfOk result (λ slow. slow ≡ fresh_slow) }
     {
-        let body = Body::new(alloc).map_err(|_| NoMemory)?;
+        let Ok(body) = Body::new(alloc) else {
+            return Err(NoMemory);
+        };
         Ok(Slow {
             body,
             ready: true,

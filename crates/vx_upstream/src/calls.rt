@@ -87,7 +87,7 @@ fn put_front(room: &mut [u8], bytes: &[u8], many: usize)
 
 impl<L: Reach> UpstreamBus<L> {
     /// The flags and timeouts of a call.
-    fn opts(&self, flags: u32) -> CallOpts
+    pub(crate) fn opts(&self, flags: u32) -> CallOpts
         ensures { result ≡ opts_of self.now flags }
     {
         CallOpts {

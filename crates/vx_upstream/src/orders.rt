@@ -7,7 +7,7 @@ ghost use Rattle.vx_upstream.specs.Restoring.{secondary_orders, address_orders, 
 use vx_488::{Addr, Listeners, Pending, Wire};
 
 /// What the box is ordered, by one device_docmd (VXI-11.2).
-#[derive(Clone, Copy, PartialEq, Eq)]
+#[derive(Clone, Copy)]
 pub(crate) enum Order {
     /// To clear its interface.
     Clear,

@@ -91,24 +91,13 @@ fn moved(done: bool) -> Move
 }
 
 impl<L: Reach> UpstreamBus<L> {
-    /// The flags and timeouts of an order.
-    fn plain_opts(&self) -> CallOpts
-        ensures { result ≡ opts_at self.now.terms.patience 0 }
-    {
-        CallOpts {
-            flags: 0,
-            io_timeout: self.patience,
-            lock_timeout: 0,
-        }
-    }
-
     /// Sends the orders that bring the box's bus to a wire, over the link that there is.
     fn send_orders(&mut self, wire: &Wire) -> Result<(), ClientErr>
         ensures rest { self.new ≡ record self.old { client = self.new.client } }
         ensures obeyed { Obeyed (words_of L.Link L.refused L.tries) self.old.made.lid (opts_at self.old.terms.patience 0) (restoring wire.now) result self.old.client self.new.client }
     {
         put_orders(&mut self.orders, wire);
-        let opts = self.plain_opts();
+        let opts = self.opts(0);
         obey_all(
             &mut self.client,
             self.made.lid,

@@ -50,3 +50,9 @@ returns g c =
       fault = piece-fault old new c.args.lid opts.io_timeout opts.lock_timeout c.args.flags bytes did.4 fits short r did.1;
       sent = piece-sent old new c.args.lid opts.io_timeout opts.lock_timeout c.args.flags bytes did.4 fits short r did.1;
     }
+
+-- what the client gives back is the link without a gateway that it was lent
+pub let_go-requires : goal.let_go-requires
+let_go-requires g c =
+    ap (λ (l : LoopState). l.served)
+    (c.swap_link-2.ensures.given ∙ c.write_marked-result.ensures.own ∙ ap (λ (s : ClientState LoopState). s.link) c.swap_link.ensures.over ∙ c.vacant-link.ensures)
