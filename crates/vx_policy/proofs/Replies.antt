@@ -5,7 +5,6 @@ use Rattle.vx_xdr.specs.Spelling.{word}
 use Rattle.vx_xdr.proofs.Laws.{word-bytes, word-number, number-word, number-lt}
 use Rattle.vx_calls.specs.declared.calls.Proc.{Proc}
 use Rattle.vx_calls.specs.declared.calls.Proc.TheVariants as proc
-use Rattle.vx_calls.specs.declared.codes.ErrorCode.TheVariants as code
 use Rattle.vx_calls.specs.ErrorCode.{error_number}
 use Rattle.vx_calls.specs.Reply.{Reply}
 use Rattle.vx_calls.specs.Reply as reply

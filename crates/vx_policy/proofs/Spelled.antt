@@ -1,12 +1,14 @@
 -- A rule is spelled in one way, and what is spelled so is read again.
 use Rattle.std.proofs.Common.{◌≡◌, ◌≢◌, ◌≤◌, ℕ, Bool, true, false, List, [], ◌∷◌, ◌++◌, Option, Some, None, refl, sym, ap, ◌∙◌, arith, codes, decimal}
-use Rattle.std.specs.Prelude.{not, ◌==◌, option_map, if◌then◌else◌, IfSome}
+use Rattle.std.specs.Prelude.{not, ◌==◌, option_map, IfSome}
 use Rattle.std.specs.List.{list_all}
 use Rattle.std.specs.Str.{bytes_eq}
 use Rattle.std.proofs.lemmas.Bool.{and_parts, and_from, false≢true, not_from_false, ne_eqb}
 use Rattle.std.proofs.lemmas.Fmt.{digits_decimal, decimal_injective}
 use Rattle.std.proofs.lemmas.Option.{same_Some, none-some}
 use Rattle.vx_lemmas.proofs.Laws.Decimal.{own, is_digit}
+use Rattle.vx_lemmas.proofs.Laws.Conditions.{same_bytes}
+use Rattle.vx_lemmas.proofs.Laws.Lists.{found_passes}
 use Rattle.vx_lemmas.proofs.Laws.Options.{mapped, gone_on}
 use Rattle.vx_calls.specs.declared.calls.Proc.{Proc}
 use Rattle.vx_calls.specs.declared.calls.Proc.TheVariants as proc
@@ -16,7 +18,7 @@ use Rattle.vx_policy.specs.declared.rules.Place.{Place}
 use Rattle.vx_policy.specs.declared.rules.Place.TheVariants as place
 use Rattle.vx_policy.specs.declared.rules.Rule.{Rule}
 use Rattle.vx_policy.specs.Grammar.{space, dot, slash, allow_text, peers_text, proc_text, place_text, rule_text, IsPeers, IsNamed, IsPlace, PolicySays, is_skipped}
-use Rattle.vx_policy.specs.Cutting.{cut, parts, words, IsUnder, SaysBy}
+use Rattle.vx_policy.specs.Cutting.{cut, named, parts, procedures, words, IsUnder, SaysBy}
 use Rattle.vx_text.proofs.Laws.Cuts.{lacks, lacks-joined}
 use Rattle.vx_policy.proofs.Cuts.{joined, cut-again}
 
@@ -202,49 +204,45 @@ one-peers (peers.Under a b c d n) (peers.Under a' b' c' d' n') hp hq e =
     let en : n ≡ n' = one-number n n' (omega arith) (omega arith) (ap (λ (x : List ℕ × List ℕ × List ℕ × List ℕ × List ℕ). x.4) same) in
     rw (ea, eb, ec, ed, en) refl
 
--- the procedure of a word
-back : List ℕ → Option Proc
-back text =
-    if bytes_eq text (codes "create") then Some proc.CreateLink
-    else if bytes_eq text (codes "write") then Some proc.Write
-    else if bytes_eq text (codes "read") then Some proc.Read
-    else if bytes_eq text (codes "stb") then Some proc.ReadStb
-    else if bytes_eq text (codes "trigger") then Some proc.Trigger
-    else if bytes_eq text (codes "clear") then Some proc.Clear
-    else if bytes_eq text (codes "remote") then Some proc.Remote
-    else if bytes_eq text (codes "local") then Some proc.Local
-    else if bytes_eq text (codes "lock") then Some proc.Lock
-    else if bytes_eq text (codes "unlock") then Some proc.Unlock
-    else if bytes_eq text (codes "srq") then Some proc.EnableSrq
-    else if bytes_eq text (codes "docmd") then Some proc.Docmd
-    else if bytes_eq text (codes "destroy") then Some proc.DestroyLink
-    else if bytes_eq text (codes "intr") then Some proc.CreateIntr
-    else if bytes_eq text (codes "unintr") then Some proc.DestroyIntr
-    else None
-
-back-again : (p : Option Proc) → IsNamed p → back (proc_text p) ≡ p
-unfolding back
-back-again None h = refl
-back-again (Some proc.CreateLink) h = refl
-back-again (Some proc.Write) h = refl
-back-again (Some proc.Read) h = refl
-back-again (Some proc.ReadStb) h = refl
-back-again (Some proc.Trigger) h = refl
-back-again (Some proc.Clear) h = refl
-back-again (Some proc.Remote) h = refl
-back-again (Some proc.Local) h = refl
-back-again (Some proc.Lock) h = refl
-back-again (Some proc.Unlock) h = refl
-back-again (Some proc.EnableSrq) h = refl
-back-again (Some proc.Docmd) h = refl
-back-again (Some proc.DestroyLink) h = refl
-back-again (Some proc.CreateIntr) h = refl
-back-again (Some proc.DestroyIntr) h = refl
-back-again (Some proc.Null) h = absurd h
-back-again (Some proc.DeviceAbort) h = absurd h
+-- the word of a procedure names it
+named-again : (p : Option Proc) → IsNamed p → named (proc_text p) ≡ p
+named-again None h = refl
+named-again (Some proc.CreateLink) h = refl
+named-again (Some proc.Write) h = refl
+named-again (Some proc.Read) h = refl
+named-again (Some proc.ReadStb) h = refl
+named-again (Some proc.Trigger) h = refl
+named-again (Some proc.Clear) h = refl
+named-again (Some proc.Remote) h = refl
+named-again (Some proc.Local) h = refl
+named-again (Some proc.Lock) h = refl
+named-again (Some proc.Unlock) h = refl
+named-again (Some proc.EnableSrq) h = refl
+named-again (Some proc.Docmd) h = refl
+named-again (Some proc.DestroyLink) h = refl
+named-again (Some proc.CreateIntr) h = refl
+named-again (Some proc.DestroyIntr) h = refl
+named-again (Some proc.Null) h = absurd h
+named-again (Some proc.DeviceAbort) h = absurd h
 
 one-proc : (p q : Option Proc) → IsNamed p → IsNamed q → proc_text p ≡ proc_text q → p ≡ q
-one-proc p q hp hq e = sym (back-again p hp) ∙ ap back e ∙ back-again q hq
+one-proc p q hp hq e = sym (named-again p hp) ∙ ap named e ∙ named-again q hq
+
+-- what a word names has that word
+no-word : (p : Proc) → named (proc_text (Some p)) ≡ Some p → IsNamed (Some p)
+no-word proc.Null is = absurd cc
+no-word proc.DeviceAbort is = absurd cc
+no-word _ is = tt
+
+pub named-word : (p : Proc) (word : List ℕ) → named word ≡ Some p → IsNamed (Some p) × (word ≡ proc_text (Some p))
+named-word p word is =
+    let same : proc_text (Some p) ≡ word = same_bytes (proc_text (Some p)) word (found_passes (λ q. bytes_eq (proc_text (Some q)) word) procedures p is) in
+    (no-word p (ap named same ∙ is), sym same)
+
+-- a word that isn't `*` and names nothing is that of nothing
+pub unnamed : (p : Option Proc) (word : List ℕ) → word ≢ codes "*" → named word ≡ None → IsNamed p → word ≢ proc_text p
+unnamed None word other none h e = other e
+unnamed (Some p) word other none h e = none-some p (sym none ∙ ap named e ∙ named-again (Some p) h)
 
 -- a number isn't a word that begins with another byte than a digit
 no-number : (n c : ℕ) (cs : List ℕ) → n ≤ 30 → is_digit c ≡ false → decimal n ≡ c ∷ cs → ⊥

@@ -1,5 +1,8 @@
 -- Cutting a line into its words, and an address into its parts.
-use Rattle.std.specs.Prelude.{◌≡◌, ◌≤◌, ℕ, ◌+◌, ◌==◌, List, take, drop, decimal, Option, option_map, option_and_then, position}
+use Rattle.std.specs.Prelude.{◌≡◌, ◌≤◌, ℕ, ◌+◌, ◌==◌, List, [], ◌∷◌, take, drop, decimal, Option, Some, option_map, option_and_then, find, position}
+use Rattle.std.specs.Str.{bytes_eq}
+use Rattle.vx_calls.specs.declared.calls.Proc.{Proc}
+use Rattle.vx_calls.specs.declared.calls.Proc.TheVariants as proc
 use Rattle.vx_policy.specs.declared.rules.Peers.{Peers}
 use Rattle.vx_policy.specs.declared.rules.Peers.TheVariants as peers
 use Rattle.vx_policy.specs.declared.rules.Rule.{Rule}
@@ -35,3 +38,13 @@ abbrev pub SaysBy : List ℕ → List ℕ → List ℕ → List ℕ → Rule →
 SaysBy allow peers proc place r =
     (allow ≡ allow_text r.allow) × IsPeers r.peers × (peers ≡ peers_text r.peers) × IsNamed r.proc × (proc ≡ proc_text r.proc)
     × IsPlace r.place × (place ≡ place_text r.place)
+
+-- the procedures that have a word
+abbrev pub procedures : List Proc
+procedures =
+    proc.CreateLink ∷ proc.Write ∷ proc.Read ∷ proc.ReadStb ∷ proc.Trigger ∷ proc.Clear ∷ proc.Remote ∷ proc.Local ∷ proc.Lock
+    ∷ proc.Unlock ∷ proc.EnableSrq ∷ proc.Docmd ∷ proc.DestroyLink ∷ proc.CreateIntr ∷ proc.DestroyIntr ∷ []
+
+-- the procedure that a word names
+abbrev pub named : List ℕ → Option Proc
+named word = find (λ p. bytes_eq (proc_text (Some p)) word) procedures

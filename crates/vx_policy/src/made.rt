@@ -24,7 +24,7 @@ const NO_OWN: u8 = 31;
 const HEAD: usize = 28;
 
 /// A link that was made, and what it is to.
-#[derive(Clone, Copy, PartialEq, Eq)]
+#[derive(Clone, Copy)]
 pub struct MadeLink {
     pub lid: u32,
     pub target: Target,

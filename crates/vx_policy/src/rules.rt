@@ -2,7 +2,7 @@
 use vx_calls::Proc;
 
 /// The peers that a rule is for.
-#[derive(Clone, Copy, PartialEq, Eq)]
+#[derive(Clone, Copy)]
 pub enum Peers {
     /// Each peer.
     Any,
@@ -17,7 +17,7 @@ pub enum Peers {
 }
 
 /// The targets that a rule is for.
-#[derive(Clone, Copy, PartialEq, Eq)]
+#[derive(Clone, Copy)]
 pub enum Place {
     /// Each target, and calls that have none.
     Any,
@@ -29,7 +29,7 @@ pub enum Place {
 
 /// A rule: whether it allows or denies, for which peers, for which procedure of the core channel, or each where it names none,
 /// and for which targets.
-#[derive(Clone, Copy, PartialEq, Eq)]
+#[derive(Clone, Copy)]
 pub struct Rule {
     pub allow: bool,
     pub peers: Peers,

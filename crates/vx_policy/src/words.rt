@@ -1,7 +1,7 @@
 //! The words of a rule.
 ghost use Rattle.std.specs.Prelude.{◌≡◌, ◌≢◌, ◌==◌, ◌≤◌, ℕ, Bool, true, false, codes, decimal, option_map, position, IfSome, None, Option};
 ghost use Rattle.vx_calls.specs.declared.calls.Proc.{Proc};
-ghost use Rattle.vx_policy.specs.Cutting.{cut, parts, IsUnder};
+ghost use Rattle.vx_policy.specs.Cutting.{cut, named, parts, IsUnder};
 ghost use Rattle.vx_policy.specs.Grammar.{allow_text, peers_text, proc_text, place_text, IsPeers, IsNamed, IsPlace};
 ghost use Rattle.vx_policy.specs.declared.rules.Peers.{Peers};
 ghost use Rattle.vx_policy.specs.declared.rules.Place.{Place};
@@ -42,10 +42,12 @@ pub(crate) fn allow_of(word: &[u8]) -> Option<bool>
     ensures some { IfSome result (λ allow. word.now ≡ allow_text allow) }
     ensures none { result ≡ None → (allow : Bool) → word.now ≢ allow_text allow }
 {
-    match word {
-        b"allow" => Some(true),
-        b"deny" => Some(false),
-        _ => None,
+    if word == b"allow".as_slice() {
+        Some(true)
+    } else if word == b"deny".as_slice() {
+        Some(false)
+    } else {
+        None
     }
 }
 
@@ -93,29 +95,54 @@ pub(crate) fn peers_of(word: &[u8]) -> Option<Peers>
     under_of(a, b, c, d, bits)
 }
 
+/// The procedures that have a word.
+const NAMED: [Proc; 15] = [
+    Proc::CreateLink,
+    Proc::Write,
+    Proc::Read,
+    Proc::ReadStb,
+    Proc::Trigger,
+    Proc::Clear,
+    Proc::Remote,
+    Proc::Local,
+    Proc::Lock,
+    Proc::Unlock,
+    Proc::EnableSrq,
+    Proc::Docmd,
+    Proc::DestroyLink,
+    Proc::CreateIntr,
+    Proc::DestroyIntr,
+];
+
+/// The word of a procedure; nothing for one that has none.
+fn word_of(proc: Proc) -> &'static [u8]
+    ensures { result.now ≡ proc_text (Some proc) }
+{
+    match proc {
+        Proc::CreateLink => b"create",
+        Proc::Write => b"write",
+        Proc::Read => b"read",
+        Proc::ReadStb => b"stb",
+        Proc::Trigger => b"trigger",
+        Proc::Clear => b"clear",
+        Proc::Remote => b"remote",
+        Proc::Local => b"local",
+        Proc::Lock => b"lock",
+        Proc::Unlock => b"unlock",
+        Proc::EnableSrq => b"srq",
+        Proc::Docmd => b"docmd",
+        Proc::DestroyLink => b"destroy",
+        Proc::CreateIntr => b"intr",
+        Proc::DestroyIntr => b"unintr",
+        Proc::Null | Proc::DeviceAbort => b"",
+    }
+}
+
 /// The procedure that a word names.
 fn named_of(word: &[u8]) -> Option<Proc>
-    ensures some { IfSome result (λ proc. IsNamed (Some proc) × (word.now ≡ proc_text (Some proc))) }
-    ensures none { result ≡ None → (proc : Proc) → IsNamed (Some proc) → word.now ≢ proc_text (Some proc) }
+    ensures { result ≡ named word.now }
 {
-    match word {
-        b"create" => Some(Proc::CreateLink),
-        b"write" => Some(Proc::Write),
-        b"read" => Some(Proc::Read),
-        b"stb" => Some(Proc::ReadStb),
-        b"trigger" => Some(Proc::Trigger),
-        b"clear" => Some(Proc::Clear),
-        b"remote" => Some(Proc::Remote),
-        b"local" => Some(Proc::Local),
-        b"lock" => Some(Proc::Lock),
-        b"unlock" => Some(Proc::Unlock),
-        b"srq" => Some(Proc::EnableSrq),
-        b"docmd" => Some(Proc::Docmd),
-        b"destroy" => Some(Proc::DestroyLink),
-        b"intr" => Some(Proc::CreateIntr),
-        b"unintr" => Some(Proc::DestroyIntr),
-        _ => None,
-    }
+    NAMED.iter().copied().find(|proc| word_of(*proc) == word)
 }
 
 /// The procedure that a word names, or none for `*`.
@@ -123,10 +150,10 @@ pub(crate) fn proc_of(word: &[u8]) -> Option<Option<Proc>>
     ensures some { IfSome result (λ proc. IsNamed proc × (word.now ≡ proc_text proc)) }
     ensures none { result ≡ None → (proc : Option Proc) → IsNamed proc → word.now ≢ proc_text proc }
 {
-    match word {
-        b"*" => Some(None),
-        _ => Some(Some(named_of(word)?)),
+    if is_star(word) {
+        return Some(None);
     }
+    Some(Some(named_of(word)?))
 }
 
 pub(crate) fn place_of(word: &[u8]) -> Option<Place>
