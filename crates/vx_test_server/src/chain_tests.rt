@@ -1,17 +1,18 @@
 //! A gateway whose bus is another gateway's, over a link in memory, beside a gateway with the bus itself: what they answer, and what becomes
 //! of faults between the two.
 
-ghost use Rattle.std.specs.Prelude.{◌≡◌, IfSome};
+ghost use Rattle.std.specs.Prelude.{◌≡◌};
 ghost use Rattle.vx_bus_traits.specs.Means.{first_means};
 
+use crate::bench_tools::bus_with;
 use crate::box_tools::{BoxLink, CALM, Conduct, Count, box_link, count_of};
 use crate::word_tools::{push_words, words};
 use std::alloc::{AllocError, Global};
 use std::sync::Arc;
 use std::sync::atomic::Ordering;
-use vx_488::Addr;
 use vx_bus_traits::Bus;
 use vx_core::Core;
+use vx_inst::Instrument;
 use vx_io_traits::{Link, Reach, ReadOut};
 use vx_rack::Slow;
 use vx_sim::SimBus;
@@ -25,19 +26,6 @@ const PATIENCE: u32 = 3;
 
 type Far = BoxLink<SimBus<Slow>>;
 
-/// A bus with an instrument at 5 that gives back what it is sent, and takes and gives at most a byte a millisecond. So a burst over the
-/// chain ends with each of its bytes.
-fn bench(alloc: Global) -> Option<SimBus<Slow>>
-    ensures { IfSome result (λ bus. bus.means ≡ first_means) }
-{
-    let slow = Slow::new(alloc).ok()?;
-    let mut bus = SimBus::new(alloc).ok()?;
-    match bus.attach_box(Addr { p: 5, s: None }, slow) {
-        Ok(()) => Some(bus),
-        Err(_) => None,
-    }
-}
-
 /// A link to a gateway over a bus, of this conduct. Its records are counted here.
 fn linked<B: Bus + Drop>(alloc: Global, bus: B, conduct: Conduct, sent: Count) -> Option<BoxLink<B>>
     requires { B.means bus ≡ first_means }
@@ -48,9 +36,20 @@ fn linked<B: Bus + Drop>(alloc: Global, bus: B, conduct: Conduct, sent: Count) -
     }
 }
 
-/// A link to a gateway with that bus.
+/// The same where the bus has an instrument at 5, if there is one.
+fn far_from<I: Instrument>(
+    alloc: Global,
+    inst: Option<I>,
+    conduct: Conduct,
+    sent: Count,
+) -> Option<BoxLink<SimBus<I>>> {
+    linked(alloc, bus_with(alloc, inst)?, conduct, sent)
+}
+
+/// The same with an instrument that gives back what it is sent, and takes and gives at most a byte a millisecond. So a burst over the chain
+/// ends with each of its bytes.
 fn far(alloc: Global, conduct: Conduct, sent: Count) -> Option<Far> {
-    linked(alloc, bench(alloc)?, conduct, sent)
+    far_from(alloc, Slow::new(alloc).ok(), conduct, sent)
 }
 
 /// A link to a gateway whose bus is that of the one that a link leads to, at this host. So many milliseconds pass with each record.
@@ -162,6 +161,53 @@ static SESSION: [Act; 44] = [
     (23, &[3], 0),
 ];
 
+/// What is done over a link to a gateway, and what comes of it.
+trait Errand<T: Drop> {
+    fn run<L: Link>(&self, alloc: Global, link: &mut L) -> Result<T, AllocError>;
+}
+
+/// Does it over a link that isn't up yet, where there is one.
+fn over<T: Drop, E: Errand<T>, L: Reach + Drop>(
+    alloc: Global,
+    link: Option<L>,
+    errand: &E,
+) -> Option<T> {
+    let mut link = link?;
+    link.reach("near", PORT);
+    errand.run(alloc, &mut link).ok()
+}
+
+/// The same over a gateway with the bus of the one that a link leads to. So many milliseconds pass with each record.
+fn over_near<T: Drop, E: Errand<T>, L: Reach + Drop>(
+    alloc: Global,
+    link: Option<L>,
+    pace: u64,
+    errand: &E,
+) -> Option<T> {
+    over(alloc, near(alloc, link, pace), errand)
+}
+
+/// The same over a gateway with the bus of the far box, which is of this conduct.
+fn in_chain<T: Drop, E: Errand<T>>(
+    alloc: Global,
+    conduct: Conduct,
+    sent: Count,
+    pace: u64,
+    errand: &E,
+) -> Option<T> {
+    over_near(alloc, far(alloc, conduct, sent), pace, errand)
+}
+
+/// To ask for all of a session, of which the records of the replies come.
+#[derive(Drop)]
+struct Session;
+
+impl Errand<Vec<u8>> for Session {
+    fn run<L: Link>(&self, alloc: Global, link: &mut L) -> Result<Vec<u8>, AllocError> {
+        replies(alloc, link)
+    }
+}
+
 /// The records of the replies of a session.
 fn replies<L: Link>(alloc: Global, link: &mut L) -> Result<Vec<u8>, AllocError> {
     let mut text = Vec::new(alloc);
@@ -173,39 +219,22 @@ fn replies<L: Link>(alloc: Global, link: &mut L) -> Result<Vec<u8>, AllocError> 
     Ok(text)
 }
 
-/// The same over a link that isn't up yet.
-fn replies_over<L: Reach + Drop>(alloc: Global, link: L) -> Option<Vec<u8>> {
-    let mut link = link;
-    link.reach("near", PORT);
-    replies(alloc, &mut link).ok()
-}
-
-/// The same where there is a link.
-fn replies_of<L: Reach + Drop>(alloc: Global, link: Option<L>) -> Option<Vec<u8>> {
-    replies_over(alloc, link?)
-}
-
-/// The same of a gateway with the bus of the one that a link leads to.
-fn replies_near<L: Reach + Drop>(alloc: Global, link: Option<L>) -> Option<Vec<u8>> {
-    replies_of(alloc, near(alloc, link, 0))
-}
-
 /// What a gateway with the bus answers.
 fn alone(alloc: Global) -> Option<Vec<u8>> {
     let sent = count_of(alloc)?;
-    replies_of(alloc, far(alloc, CALM, sent))
+    over(alloc, far(alloc, CALM, sent), &Session)
 }
 
 /// What one with the other's bus answers.
-fn in_chain(alloc: Global) -> Option<Vec<u8>> {
+fn chain_replies(alloc: Global) -> Option<Vec<u8>> {
     let sent = count_of(alloc)?;
-    replies_near(alloc, far(alloc, CALM, sent))
+    in_chain(alloc, CALM, sent, 0, &Session)
 }
 
 /// Whether both are the same, and are whole.
 fn are_the_same(alloc: Global) -> Option<bool> {
     let first = alone(alloc)?;
-    let second = in_chain(alloc)?;
+    let second = chain_replies(alloc)?;
     Some(2000 < first.len() && first.as_slice() == second.as_slice())
 }
 
@@ -291,22 +320,20 @@ fn is_once(bytes: &[u8]) -> bool {
     is_last && rest.is_empty()
 }
 
-/// The same over a link that isn't up yet.
-fn count_over<L: Reach + Drop>(alloc: Global, link: L) -> Option<Came> {
-    let mut link = link;
-    link.reach("near", PORT);
-    count(alloc, &mut link).ok()
+/// To make those calls.
+#[derive(Drop)]
+struct Faulty;
+
+impl Errand<Came> for Faulty {
+    fn run<L: Link>(&self, alloc: Global, link: &mut L) -> Result<Came, AllocError> {
+        count(alloc, link)
+    }
 }
 
-/// The same of a gateway with the bus of the one that a link leads to; none where there is no bus.
-fn count_near<L: Reach + Drop>(alloc: Global, link: Option<L>) -> Option<Came> {
-    count_over(alloc, near(alloc, link, 1)?)
-}
-
-/// The same where the far box is of this conduct.
+/// What they come to where the far box is of this conduct.
 fn broken(alloc: Global, conduct: Conduct) -> Option<Came> {
     let sent = count_of(alloc)?;
-    count_near(alloc, far(alloc, conduct, sent))
+    in_chain(alloc, conduct, sent, 1, &Faulty)
 }
 
 /// Whether a bus isn't had whose connection breaks at the record of this number, at one of the four that open the bus; or whether calls
@@ -365,19 +392,19 @@ fn are_written<L: Link>(alloc: Global, link: &mut L, sent: &Count) -> Result<boo
     Ok(all)
 }
 
-/// The same over a link that isn't up yet.
-fn are_written_over<L: Reach + Drop>(alloc: Global, link: L, sent: &Count) -> Option<bool> {
-    let mut link = link;
-    link.reach("near", PORT);
-    are_written(alloc, &mut link, sent).ok()
+/// To make those writes, over a far box whose records are counted here.
+#[derive(Drop)]
+struct Writes {
+    sent: Count,
 }
 
-/// The same of a gateway with the bus of the one that a link leads to, one each 300 milliseconds.
-fn are_written_near<L: Reach + Drop>(alloc: Global, link: Option<L>, sent: &Count) -> Option<bool> {
-    are_written_over(alloc, near(alloc, link, 300)?, sent)
+impl Errand<bool> for Writes {
+    fn run<L: Link>(&self, alloc: Global, link: &mut L) -> Result<bool, AllocError> {
+        are_written(alloc, link, &self.sent)
+    }
 }
 
-/// The same where the connection breaks in the second and the next two reaches are refused.
+/// Whether they are, one each 300 milliseconds, where the connection breaks in the second and the next two reaches are refused.
 fn away(alloc: Global) -> Option<bool> {
     let sent = count_of(alloc)?;
     let seen = Arc::try_clone(&sent).ok()?;
@@ -386,7 +413,7 @@ fn away(alloc: Global) -> Option<bool> {
         refuses: (2, 3),
         ..CALM
     };
-    are_written_near(alloc, far(alloc, conduct, seen), &sent)
+    in_chain(alloc, conduct, seen, 300, &Writes { sent })
 }
 
 // A write is three commands and one byte, and each look at SRQ and NDAC another record. A try that brings the bus back is create_link, three

@@ -3,6 +3,7 @@
 use crate::client_tools::{Answer, Ask, Got, are_answered};
 use crate::word_tools::{behind, link_of, push_words, words};
 use std::alloc::{AllocError, Global};
+use std::process::Abort;
 use vx_client::{CallOpts, Client, ClientErr, LinkMade, ReadEnd};
 use vx_memory::MemLink;
 use vx_rpc::RpcRefusal;
@@ -380,14 +381,18 @@ fn holds(alloc: Global, row: &Row) -> Option<bool> {
     Some(took(client, row.sent) && answered)
 }
 
+/// Sees that each of these rows holds.
+fn all_hold<R: Abort>(rt: &R, alloc: Global, name: &str, rows: &[Row]) {
+    for (place, row) in rows.iter().enumerate() {
+        let is_so = holds(alloc, row);
+        assert!(rt; is_so == Some(true), "{name} {place}");
+    }
+}
+
 #[test]
 fn calls_are_made_and_answered(rt: HostRuntime) {
-    for (name, rows) in [("call", CALLS.as_slice()), ("reply", &REPLIES)] {
-        for (place, row) in rows.iter().enumerate() {
-            let is_so = holds(rt.alloc(), row);
-            assert!(rt; is_so == Some(true), "{name} {place}");
-        }
-    }
+    all_hold(&rt, rt.alloc(), "call", &CALLS);
+    all_hold(&rt, rt.alloc(), "reply", &REPLIES);
 }
 
 /// Whether a write of this text goes over a link of any size, in these bytes.

@@ -3,6 +3,8 @@
 #![tactic(auto)]
 
 #[cfg(test)]
+mod bench_tools;
+#[cfg(test)]
 mod box_tests;
 #[cfg(test)]
 mod box_tools;

@@ -1,6 +1,7 @@
 //! The lines of the log, as they are written.
 
 use std::alloc::{AllocError, Global};
+use vx_io_traits::{Clock, Sink};
 use vx_memory::{MemClock, MemSink};
 use vx_startup::{Channel, Journal, News, Place, Reason};
 
@@ -107,27 +108,47 @@ static ROWS: [Told; 9] = [
     },
 ];
 
-/// Whether a log has the lines of these rows, and no others, once all of them were told.
-fn is_written(alloc: Global, rows: &[Told]) -> Result<bool, AllocError> {
+/// A log of which nothing was told yet, whose clock tells the moments of these rows.
+fn journal_of(alloc: Global, rows: &[Told]) -> Result<Journal<MemClock, MemSink>, AllocError> {
     let mut moments = Vec::new(alloc);
-    let mut due = Vec::new(alloc);
     for row in rows {
         moments.push(row.moment)?;
-        due.extend_from_slice(row.line.as_bytes())?;
     }
-    let mut journal = Journal {
+    Ok(Journal {
         clock: MemClock::new(moments),
         sink: MemSink::new(Vec::new(alloc), Vec::new(alloc)),
-    };
+    })
+}
+
+/// The lines of these rows.
+fn lines_of(alloc: Global, rows: &[Told]) -> Result<Vec<u8>, AllocError> {
+    let mut due = Vec::new(alloc);
+    for row in rows {
+        due.extend_from_slice(row.line.as_bytes())?;
+    }
+    Ok(due)
+}
+
+/// Whether a log takes what all of these rows tell.
+fn is_told<C: Clock, K: Sink>(journal: &mut Journal<C, K>, rows: &[Told]) -> bool {
     let mut is_told = true;
     for row in rows {
         let place = Place {
             host: row.host,
             port: row.port,
         };
-        let told = journal.tell(row.channel, row.number, place, row.news);
-        is_told = is_told && told.is_ok();
+        is_told &= journal
+            .tell(row.channel, row.number, place, row.news)
+            .is_ok();
     }
+    is_told
+}
+
+/// Whether a log has the lines of these rows, and no others, once all of them were told.
+fn is_written(alloc: Global, rows: &[Told]) -> Result<bool, AllocError> {
+    let due = lines_of(alloc, rows)?;
+    let mut journal = journal_of(alloc, rows)?;
+    let is_told = is_told(&mut journal, rows);
     Ok(is_told && journal.sink.bytes() == due.as_slice())
 }
 

@@ -1,20 +1,16 @@
 //! A client over a link to a gateway with an instrument at 5 that gives back what it is sent.
 
-ghost use Rattle.std.specs.Prelude.{◌≡◌, IfSome};
-ghost use Rattle.vx_sim.specs.Means.{first_means};
-
+use crate::bench_tools::bus_with;
 use crate::client_tools::{Answer, Ask, Got, are_answered, line_words, run_so};
 use crate::word_tools::reach_of;
 use std::alloc::{AllocError, Global};
-use vx_488::Addr;
 use vx_client::{CallOpts, Client, ClientErr, LinkMade, ReadEnd};
 use vx_core::Core;
 use vx_inst::Instrument;
-use vx_io_traits::{Link, Reach, ReadOut, WriteOut};
+use vx_io_traits::{Link, ReadOut, WriteOut};
 use vx_loop::{LoopLink, through_client};
 use vx_memory::MemSink;
 use vx_rack::Echo;
-use vx_sim::SimBus;
 
 const OPTS: CallOpts = CallOpts {
     flags: 8,
@@ -29,35 +25,21 @@ const LINK: LinkMade = LinkMade {
     max: 262_144,
 };
 
-/// A bus with that instrument.
-fn echoing(alloc: Global) -> Option<SimBus<Echo>>
-    ensures { IfSome result (λ bus. bus.means ≡ first_means) }
-{
-    let echo = Echo::new(alloc).ok()?;
-    let mut bus = SimBus::new(alloc).ok()?;
-    match bus.attach_box(Addr { p: 5, s: None }, echo) {
-        Ok(()) => Some(bus),
-        Err(_) => None,
-    }
-}
-
-/// A link to a gateway over a bus, which was told this moment.
-fn link_over<I: Instrument>(alloc: Global, bus: SimBus<I>, now: u64) -> Option<LoopLink<I>>
-    requires { bus.means ≡ first_means }
-{
+/// A link to a gateway over a bus with an instrument, where there is one. The gateway was told this moment.
+fn link_to<I: Instrument>(alloc: Global, inst: Option<I>, now: u64) -> Option<LoopLink<I>> {
+    let bus = bus_with(alloc, inst)?;
     let mut core = Core::start(alloc, bus, 9011).ok()?;
     core.sample(now);
     LoopLink::new(alloc, core).ok()
 }
 
-/// A link to a gateway over that bus.
+/// A link to a gateway over a bus with that instrument.
 fn link(alloc: Global, now: u64) -> Option<LoopLink<Echo>> {
-    let bus = echoing(alloc)?;
-    link_over(alloc, bus, now)
+    link_to(alloc, Echo::new(alloc).ok(), now)
 }
 
-/// Whether a write of these bytes goes through, in two pieces, and is read back.
-fn goes_through<I: Instrument>(
+/// Whether a write of these bytes of a client goes through, in two pieces, and is read back.
+fn client_writes<I: Instrument>(
     client: &mut Client<LoopLink<I>>,
     bytes: &[u8],
     into: &mut [u8],
@@ -78,6 +60,28 @@ fn goes_through<I: Instrument>(
     is_made && is_written && is_last && is_read && &*into == bytes
 }
 
+/// A link over whose clients writes go through.
+trait Through: Sized + Link + Drop {
+    fn writes(client: &mut Client<Self>, bytes: &[u8], into: &mut [u8]) -> bool;
+}
+
+impl<I: Instrument> Through for LoopLink<I> {
+    fn writes(client: &mut Client<LoopLink<I>>, bytes: &[u8], into: &mut [u8]) -> bool {
+        client_writes(client, bytes, into)
+    }
+}
+
+/// The same over a link, where there is one, and memory for its client.
+fn goes_through<L: Through>(
+    alloc: Global,
+    link: Option<L>,
+    bytes: &[u8],
+    into: &mut [u8],
+) -> Option<bool> {
+    let mut client = Client::new(alloc, link?).ok()?;
+    Some(L::writes(&mut client, bytes, into))
+}
+
 /// 100,000 bytes, the numbers from 0 to 250 over and over.
 fn long_text(alloc: Global) -> Result<Vec<u8>, AllocError> {
     let mut bytes = vec![in alloc; 0u8; 100_000]?;
@@ -91,8 +95,7 @@ fn long_text(alloc: Global) -> Result<Vec<u8>, AllocError> {
 fn long_goes_through(alloc: Global) -> Option<bool> {
     let bytes = long_text(alloc).ok()?;
     let mut into = vec![in alloc; 0u8; 100_000].ok()?;
-    let mut client = Client::new(alloc, link(alloc, 0)?).ok()?;
-    Some(goes_through(&mut client, bytes.as_slice(), into.as_mut_slice()))
+    goes_through(alloc, link(alloc, 0), bytes.as_slice(), into.as_mut_slice())
 }
 
 #[test]
@@ -219,9 +222,9 @@ static ROWS: [Row; 5] = [
     },
 ];
 
-/// Whether the calls of a row are answered as it says, over a link.
-fn holds<L: Link + Drop>(alloc: Global, link: L, row: &Row) -> Option<bool> {
-    let mut client = Client::new(alloc, link).ok()?;
+/// Whether the calls of a row are answered as it says, over a link, where there is one.
+fn holds<L: Link + Drop>(alloc: Global, link: Option<L>, row: &Row) -> Option<bool> {
+    let mut client = Client::new(alloc, link?).ok()?;
     let mut room = [0; 8];
     let same = are_answered(&mut client, &LINK, &OPTS, row.steps, &mut room);
     Some(same && room.starts_with(row.room))
@@ -229,7 +232,7 @@ fn holds<L: Link + Drop>(alloc: Global, link: L, row: &Row) -> Option<bool> {
 
 /// The same over a link of its own.
 fn row_holds(alloc: Global, row: &Row) -> Option<bool> {
-    holds(alloc, link(alloc, row.now)?, row)
+    holds(alloc, link(alloc, row.now), row)
 }
 
 #[test]
@@ -240,24 +243,23 @@ fn calls_are_answered(rt: HostRuntime) {
     }
 }
 
-/// Whether a command over a reach ends with a status and prints a text.
-fn comes_so<R: Reach + Drop>(
+/// Whether a command over the host `h`, which answers over a link, ends with a status and prints a text.
+fn comes_so<L: Link + Drop>(
     alloc: Global,
     words: &[String],
-    reach: R,
+    link: Option<L>,
     status: u8,
     text: &str,
-) -> bool {
+) -> Option<bool> {
     let mut sink = MemSink::new(Vec::new(alloc), Vec::new(alloc));
-    run_so(alloc, words, reach, &mut sink, status, text).1
+    let reach = reach_of(alloc, "h", link?).ok()?;
+    Some(run_so(alloc, words, reach, &mut sink, status, text).1)
 }
 
-/// The same for the words of a line over the host `h` with a link of its own, where there is memory for them.
+/// The same for the words of a line, with a link of its own, where there is memory for them.
 fn line_comes_so(alloc: Global, line: &str, status: u8, text: &str) -> Option<bool> {
     let list = line_words(alloc, line).ok()?;
-    let link = link(alloc, 0)?;
-    let reach = reach_of(alloc, "h", link).ok()?;
-    Some(comes_so(alloc, list.as_slice(), reach, status, text))
+    comes_so(alloc, list.as_slice(), link(alloc, 0), status, text)
 }
 
 /// Command lines, what each ends with, and what it prints.
@@ -332,19 +334,19 @@ fn acts_so<L: Link>(link: &mut L, act: Act) -> bool {
     }
 }
 
-/// Whether a link answers all of these so.
-fn acts<L: Link + Drop>(link: L, list: &[Act]) -> bool {
-    let mut link = link;
+/// Whether a link answers all of these so, where there is one.
+fn acts<L: Link + Drop>(link: Option<L>, list: &[Act]) -> Option<bool> {
+    let mut link = link?;
     let mut same = true;
     for act in list {
         same &= acts_so(&mut link, *act);
     }
-    same
+    Some(same)
 }
 
 /// The same of a link of its own.
 fn link_acts(alloc: Global, list: &[Act]) -> Option<bool> {
-    Some(acts(link(alloc, 0)?, list))
+    acts(link(alloc, 0), list)
 }
 
 #[test]

@@ -2,11 +2,13 @@
 //! are composed by hand from their words; the mark of a record stands first.
 use crate::box_tests::{REST, box_of};
 use crate::serve_tests::{Idle, PLAIN, SERVED};
-use crate::served_tests::{Ends, Row, Setting, counts_of, is_ended, setting_of};
+use crate::served_tests::{Counts, Ends, Row, Setting, counts_of, is_ended, setting_of};
 use std::alloc::{AllocError, Global};
 use std::sync::Wait;
-use vx_io_traits::Reach;
+use vx_io_traits::{Listen, Net, Reach, Streams};
 use vx_relay::relay_run;
+use vx_serve::{Logs, Placed};
+use vx_session::Tools;
 
 /// A server with these words and this bench, over a box at the host `box` and port 9010 that gives these words; how it ends, and what it
 /// writes.
@@ -140,12 +142,17 @@ fn row_of(relay: &Relay) -> Row {
 }
 
 /// Runs a server with these over a link to its box, and answers its status and the number of its tally.
-fn run<R: Wait, L: Reach + Drop>(
+fn run<R: Wait, N: Net, X: Tools + Logs, L: Reach + Drop>(
     rt: &R,
     alloc: Global,
-    setting: &mut Setting,
+    setting: &mut Setting<N, X>,
     link: L,
-) -> (u8, u64) {
+) -> (u8, u64)
+where
+    N::Port: Drop,
+    <N::Port as Listen>::Peer: Placed + Drop,
+    <X::S as Streams>::Peer: Drop,
+{
     let (status, tally) = relay_run(
         rt,
         alloc,
@@ -160,14 +167,32 @@ fn run<R: Wait, L: Reach + Drop>(
     (status, tally.number())
 }
 
-/// Whether a server ends as it says.
+/// Whether a server with these ends as a row says.
+fn ends_with<R: Wait, N: Net + Drop, X: Tools + Logs + Drop, L: Reach + Drop>(
+    rt: &R,
+    alloc: Global,
+    row: &Row,
+    counts: &Counts,
+    setting: Setting<N, X>,
+    link: L,
+) -> bool
+where
+    N::Port: Drop,
+    <N::Port as Listen>::Peer: Placed + Drop,
+    <X::S as Streams>::Peer: Drop,
+{
+    let mut setting = setting;
+    let ended = run(rt, alloc, &mut setting, link);
+    is_ended(row, counts, &setting.sink, ended)
+}
+
+/// Whether a server ends as it says, where there is memory for it.
 fn ends_so<R: Wait>(rt: &R, alloc: Global, relay: &Relay) -> Result<bool, AllocError> {
     let row = row_of(relay);
     let counts = counts_of(alloc)?;
     let link = box_of(alloc, relay.gives, &[])?;
-    let mut setting = setting_of(alloc, &row, &counts)?;
-    let ended = run(rt, alloc, &mut setting, link);
-    Ok(is_ended(&row, &counts, &setting.sink, ended))
+    let setting = setting_of(alloc, &row, &counts)?;
+    Ok(ends_with(rt, alloc, &row, &counts, setting, link))
 }
 
 #[test]

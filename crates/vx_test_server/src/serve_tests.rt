@@ -1,5 +1,8 @@
 //! Servers whose workers never run: the causes of each status, and what is written.
 use crate::served_tests::{Ends, Log, Row, Side, ends_so};
+use std::alloc::Global;
+use std::process::Abort;
+use std::sync::Wait;
 use vx_io_traits::{Spawner, Started, Work};
 use vx_serve::BENCH_MAX;
 
@@ -355,19 +358,19 @@ static LINKS: [Row; 2] = [
     },
 ];
 
+/// Sees that the server of each of these rows ends as it says.
+fn all_end_so<R: Abort + Wait>(rt: &R, alloc: Global, name: &str, rows: &[Row]) {
+    for (place, row) in rows.iter().enumerate() {
+        let is_so = ends_so(rt, alloc, row, &mut Idle::new(row.refuses));
+        assert!(rt; is_so == Some(true), "{name} {place}");
+    }
+}
+
 #[test]
 fn servers_end_so(rt: HostRuntime) {
-    let tables = [
-        ("words", WORDS.as_slice()),
-        ("bench", &BENCHES),
-        ("fault", &FAULTS),
-        ("first cause", &TWICE),
-        ("links that come back", &LINKS),
-    ];
-    for (name, rows) in &tables {
-        for (place, row) in rows.iter().enumerate() {
-            let is_so = ends_so(&rt, rt.alloc(), row, Idle::new(row.refuses));
-            assert!(rt; is_so == Some(true), "{name} {place}");
-        }
-    }
+    all_end_so(&rt, rt.alloc(), "words", &WORDS);
+    all_end_so(&rt, rt.alloc(), "bench", &BENCHES);
+    all_end_so(&rt, rt.alloc(), "fault", &FAULTS);
+    all_end_so(&rt, rt.alloc(), "first cause", &TWICE);
+    all_end_so(&rt, rt.alloc(), "links that come back", &LINKS);
 }

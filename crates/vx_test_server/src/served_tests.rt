@@ -10,9 +10,11 @@ use std::io::Stderr;
 use std::sync::atomic::{AtomicU64, Ordering};
 use std::sync::{Arc, Wait};
 use std::thread::{self, Threads};
-use vx_host::{Wiring, wire};
+use vx_host::{ThreadSpawner, Wiring, wire};
+use vx_inst::Instrument;
 use vx_io_traits::{
-    Clock, Dial, DialOut, Handed, Link, Pause, ReadOut, Sink, Spawner, Streams, WriteOut,
+    Clock, Dial, DialOut, Handed, Link, Listen, Net, Pause, ReadOut, Sink, Spawner, Streams, Work,
+    WriteOut,
 };
 use vx_memory::{MemNet, MemSink, MemSource};
 use vx_rack::{Asker, Spare};
@@ -501,11 +503,11 @@ pub(crate) struct Ends {
 
 /// What the server of a row runs with: its words, the source of its bench, its net, its tools, and a sink of which the row's writes fail.
 #[derive(Drop)]
-pub(crate) struct Setting {
+pub(crate) struct Setting<N, X> {
     pub words: Vec<String>,
     pub source: MemSource,
-    pub net: MemNet<Comparing>,
-    pub tools: Bag,
+    pub net: N,
+    pub tools: X,
     pub sink: MemSink,
 }
 
@@ -513,7 +515,7 @@ pub(crate) fn setting_of(
     alloc: Global,
     row: &Row,
     counts: &Arc<Counts, Global>,
-) -> Result<Setting, AllocError> {
+) -> Result<Setting<MemNet<Comparing>, Bag>, AllocError> {
     let words = line_words(alloc, row.words)?;
     let source = source_of(alloc, row)?;
     let fails = row.writes.to_vec(alloc)?;
@@ -529,13 +531,18 @@ pub(crate) fn setting_of(
 }
 
 /// Runs a server with these, and answers its status and the number of its tally.
-fn run<R: Wait, W: Spawner<Job>>(
+fn run<R: Wait, N: Net, X: Tools + Logs, I: Instrument, W: Spawner<Serve<N, X, I>>>(
     rt: &R,
     alloc: Global,
-    setting: &mut Setting,
-    rack: Vec<Spare<Asker>>,
+    setting: &mut Setting<N, X>,
+    rack: Vec<Spare<I>>,
     spawner: &mut W,
-) -> (u8, u64) {
+) -> (u8, u64)
+where
+    N::Port: Drop,
+    <N::Port as Listen>::Peer: Placed + Drop,
+    <X::S as Streams>::Peer: Drop,
+{
     let (status, tally) = serve_run(
         rt,
         alloc,
@@ -574,32 +581,76 @@ pub(crate) fn is_ended(row: &Row, counts: &Counts, sink: &MemSink, ended: (u8, u
     is_told && ended == (row.ends.status, row.ends.number) && bytes == row.ends.bytes
 }
 
-/// Whether the server of a row ends as it says, where there is memory for it.
-pub(crate) fn ends_so<R: Wait, W: Spawner<Job> + Drop>(
+/// Whether a server with these ends as its row says.
+fn ends_with<
+    R: Wait,
+    N: Net + Drop,
+    X: Tools + Logs + Drop,
+    I: Instrument,
+    W: Spawner<Serve<N, X, I>>,
+>(
     rt: &R,
     alloc: Global,
     row: &Row,
-    spawner: W,
-) -> Option<bool> {
-    let mut spawner = spawner;
-    let rack = askers(alloc)?;
-    let counts = counts_of(alloc).ok()?;
-    let mut setting = setting_of(alloc, row, &counts).ok()?;
-    let ended = run(rt, alloc, &mut setting, rack, &mut spawner);
-    Some(is_ended(row, &counts, &setting.sink, ended))
+    counts: &Counts,
+    setting: Setting<N, X>,
+    rack: Vec<Spare<I>>,
+    spawner: &mut W,
+) -> bool
+where
+    N::Port: Drop,
+    <N::Port as Listen>::Peer: Placed + Drop,
+    <X::S as Streams>::Peer: Drop,
+{
+    let mut setting = setting;
+    let ended = run(rt, alloc, &mut setting, rack, spawner);
+    is_ended(row, counts, &setting.sink, ended)
 }
 
-/// The same with a thread for each worker.
+/// Whether the server of a row ends as it says, where there is memory for it.
+pub(crate) fn ends_so<R: Wait, W: Spawner<Job>>(
+    rt: &R,
+    alloc: Global,
+    row: &Row,
+    spawner: &mut W,
+) -> Option<bool> {
+    let counts = counts_of(alloc).ok()?;
+    let rack = askers(alloc)?;
+    let setting = setting_of(alloc, row, &counts).ok()?;
+    Some(ends_with(rt, alloc, row, &counts, setting, rack, spawner))
+}
+
+/// The same where there is a spawner.
+fn ends_so_by<R: Wait, W: Spawner<Job> + Drop>(
+    rt: &R,
+    alloc: Global,
+    row: &Row,
+    spawner: Option<W>,
+) -> Option<bool> {
+    let mut spawner = spawner?;
+    ends_so(rt, alloc, row, &mut spawner)
+}
+
+/// What starts a thread for each work, where there is memory for it.
+fn threads<R, J>(rt: R, alloc: Global, stderr: Stderr) -> Option<ThreadSpawner<R, J>>
+where
+    R: Threads + Wait + Copy + Send + 'static,
+    J: Work + Send + Drop + 'static,
+{
+    match wire(rt, alloc, stderr, false) {
+        Ok(Wiring { spawner, .. }) => Some(spawner),
+        Err(_) => None,
+    }
+}
+
+/// Whether the server of a row ends as it says, with a thread for each worker.
 fn ends_so_in_threads<R: Threads + Wait + Copy + Send + 'static>(
     rt: R,
     alloc: Global,
     stderr: Stderr,
     row: &Row,
 ) -> Option<bool> {
-    match wire(rt, alloc, stderr, false) {
-        Ok(Wiring { spawner, .. }) => ends_so(&rt, alloc, row, spawner),
-        Err(_) => None,
-    }
+    ends_so_by(&rt, alloc, row, threads(rt, alloc, stderr))
 }
 
 /// One worker of core links, and one of streams.

@@ -2,170 +2,269 @@
 
 use crate::client_tools::line_words;
 use std::alloc::{AllocError, Global};
-use std::test::Fail;
 use vx_startup::{Asked, Options, read_words};
 
-/// The numbers of options: core, abort, sample, workers, limit; and behind a bar keepalive, send-timeout, idle, abort-idle and
-/// whether there is a log, where these aren't as usual; or behind a slash patience and whether there is a port mapper.
-fn numbers(alloc: Global, options: Options) -> Result<String, AllocError> {
-    let Options {
-        core,
-        abort,
-        sample,
-        workers,
-        limit,
-        keepalive,
-        send_timeout,
-        idle,
-        abort_idle,
-        patience,
-        log,
-        map,
-    } = options;
-    if (patience, map) != (10, false) {
-        return format!(in alloc; "{core} {abort} {sample} {workers} {limit} / {patience} {map}");
-    }
-    if (keepalive, send_timeout, idle, abort_idle, log) == (120, 60, 0, 5, false) {
-        return format!(in alloc; "{core} {abort} {sample} {workers} {limit}");
-    }
-    format!(in alloc;
-        "{core} {abort} {sample} {workers} {limit} | {keepalive} {send_timeout} {idle} {abort_idle} {log}"
-    )
-}
+/// What no words set.
+const USUAL: Options = Options {
+    core: 9010,
+    abort: 9011,
+    sample: 10,
+    workers: 16,
+    limit: 0,
+    keepalive: 120,
+    send_timeout: 60,
+    idle: 0,
+    abort_idle: 5,
+    patience: 10,
+    log: false,
+    map: false,
+};
 
-/// What a line is answered with: the numbers that it sets, the text that is told, or that it is refused.
-fn answer(alloc: Global, line: &str) -> Result<String, AllocError> {
-    let words = line_words(alloc, line)?;
-    match read_words(alloc, words.as_slice()) {
-        Asked::Serve(options) => numbers(alloc, options),
-        Asked::Tell(text) => Ok(text),
-        Asked::Usage => String::from_str(alloc, "refused"),
-        Asked::NoMemory => String::from_str(alloc, "no memory"),
-    }
-}
-
-/// What is answered with a line that is refused.
-const NO: &str = "refused";
-
-/// The version.
-const VERSION: &str = "vxgate 0.1.0\n";
-
-/// Lines of words, and what each is answered with.
-static ROWS: [(&str, &str); 80] = [
+/// Lines of words that ask to serve, and what each sets.
+static SERVED: [(&str, Options); 32] = [
     // no word sets an option
-    ("", "9010 9011 10 16 0"),
-    ("--", "9010 9011 10 16 0"),
+    ("", USUAL),
+    ("--", USUAL),
     // each option sets its number
-    ("--core 1", "1 9011 10 16 0"),
-    ("--core 65535", "65535 9011 10 16 0"),
-    ("--core=9010", "9010 9011 10 16 0"),
-    ("--abort 1", "9010 1 10 16 0"),
-    ("--abort=65535", "9010 65535 10 16 0"),
-    ("--sample 1", "9010 9011 1 16 0"),
-    ("--sample 60000", "9010 9011 60000 16 0"),
-    ("--workers 1", "9010 9011 10 1 0"),
-    ("--workers 64", "9010 9011 10 64 0"),
-    ("--limit 0", "9010 9011 10 16 0"),
-    ("--limit 1000000", "9010 9011 10 16 1000000"),
-    ("--keepalive 0", "9010 9011 10 16 0 | 0 60 0 5 false"),
+    ("--core 1", Options { core: 1, ..USUAL }),
+    (
+        "--core 65535",
+        Options {
+            core: 65535,
+            ..USUAL
+        },
+    ),
+    ("--core=9010", USUAL),
+    ("--abort 1", Options { abort: 1, ..USUAL }),
+    (
+        "--abort=65535",
+        Options {
+            abort: 65535,
+            ..USUAL
+        },
+    ),
+    ("--sample 1", Options { sample: 1, ..USUAL }),
+    (
+        "--sample 60000",
+        Options {
+            sample: 60000,
+            ..USUAL
+        },
+    ),
+    (
+        "--workers 1",
+        Options {
+            workers: 1,
+            ..USUAL
+        },
+    ),
+    (
+        "--workers 64",
+        Options {
+            workers: 64,
+            ..USUAL
+        },
+    ),
+    ("--limit 0", USUAL),
+    (
+        "--limit 1000000",
+        Options {
+            limit: 1000000,
+            ..USUAL
+        },
+    ),
+    (
+        "--keepalive 0",
+        Options {
+            keepalive: 0,
+            ..USUAL
+        },
+    ),
     (
         "--keepalive 86400",
-        "9010 9011 10 16 0 | 86400 60 0 5 false",
+        Options {
+            keepalive: 86400,
+            ..USUAL
+        },
     ),
-    ("--send-timeout=0", "9010 9011 10 16 0 | 120 0 0 5 false"),
+    (
+        "--send-timeout=0",
+        Options {
+            send_timeout: 0,
+            ..USUAL
+        },
+    ),
     (
         "--send-timeout 86400",
-        "9010 9011 10 16 0 | 120 86400 0 5 false",
+        Options {
+            send_timeout: 86400,
+            ..USUAL
+        },
     ),
-    ("--idle 1", "9010 9011 10 16 0 | 120 60 1 5 false"),
-    ("--idle=86400", "9010 9011 10 16 0 | 120 60 86400 5 false"),
-    ("--idle 0", "9010 9011 10 16 0"),
-    ("--abort-idle 0", "9010 9011 10 16 0 | 120 60 0 0 false"),
+    ("--idle 1", Options { idle: 1, ..USUAL }),
+    (
+        "--idle=86400",
+        Options {
+            idle: 86400,
+            ..USUAL
+        },
+    ),
+    ("--idle 0", USUAL),
+    (
+        "--abort-idle 0",
+        Options {
+            abort_idle: 0,
+            ..USUAL
+        },
+    ),
     (
         "--abort-idle 86400",
-        "9010 9011 10 16 0 | 120 60 0 86400 false",
+        Options {
+            abort_idle: 86400,
+            ..USUAL
+        },
     ),
-    ("--log", "9010 9011 10 16 0 | 120 60 0 5 true"),
-    ("--patience 1", "9010 9011 10 16 0 / 1 false"),
-    ("--patience=1000", "9010 9011 10 16 0 / 1000 false"),
-    ("--map", "9010 9011 10 16 0 / 10 true"),
+    ("--log", Options { log: true, ..USUAL }),
+    (
+        "--patience 1",
+        Options {
+            patience: 1,
+            ..USUAL
+        },
+    ),
+    (
+        "--patience=1000",
+        Options {
+            patience: 1000,
+            ..USUAL
+        },
+    ),
+    ("--map", Options { map: true, ..USUAL }),
     // all of them, in any order
     (
         "--core 1024 --abort 1025 --sample 250 --workers 4 --limit 7",
-        "1024 1025 250 4 7",
+        Options {
+            core: 1024,
+            abort: 1025,
+            sample: 250,
+            workers: 4,
+            limit: 7,
+            ..USUAL
+        },
     ),
     (
         "--limit=7 --workers=4 --sample=250 --abort=1025 --core=1024",
-        "1024 1025 250 4 7",
+        Options {
+            core: 1024,
+            abort: 1025,
+            sample: 250,
+            workers: 4,
+            limit: 7,
+            ..USUAL
+        },
     ),
     (
         "--log --keepalive 1 --core 1024 --send-timeout 2 --idle 3 --abort-idle 4",
-        "1024 9011 10 16 0 | 1 2 3 4 true",
+        Options {
+            core: 1024,
+            keepalive: 1,
+            send_timeout: 2,
+            idle: 3,
+            abort_idle: 4,
+            log: true,
+            ..USUAL
+        },
     ),
     (
         "--abort-idle=4 --idle=3 --send-timeout=2 --log --keepalive=1",
-        "9010 9011 10 16 0 | 1 2 3 4 true",
+        Options {
+            keepalive: 1,
+            send_timeout: 2,
+            idle: 3,
+            abort_idle: 4,
+            log: true,
+            ..USUAL
+        },
     ),
     // a number may have a plus and zeros
-    ("--workers +4", "9010 9011 10 4 0"),
-    ("--workers 0004", "9010 9011 10 4 0"),
-    // above or below a range
-    ("--core 0", NO),
-    ("--core 65536", NO),
-    ("--abort 0", NO),
-    ("--abort 65536", NO),
-    ("--sample 0", NO),
-    ("--sample 60001", NO),
-    ("--workers 0", NO),
-    ("--workers 65", NO),
-    ("--limit 1000001", NO),
-    ("--limit 18446744073709551616", NO),
-    ("--keepalive 86401", NO),
-    ("--send-timeout 86401", NO),
-    ("--idle 86401", NO),
-    ("--abort-idle 86401", NO),
-    ("--patience 0", NO),
-    ("--patience 1001", NO),
-    ("--keepalive=-1", NO),
-    // no number
-    ("--core x", NO),
-    ("--core 9010x", NO),
-    ("--core 0x1F90", NO),
-    ("--core 1.0", NO),
-    ("--core=-1", NO),
-    ("--core=", NO),
-    ("--core=+", NO),
-    // no value, or another option where it should stand
-    ("--workers", NO),
-    ("--core --abort 1", NO),
-    ("--core -1", NO),
-    ("--idle", NO),
-    // a flag has no value
-    ("--log 1", NO),
-    ("--log=true", NO),
-    ("--map=true", NO),
-    // an option twice
-    ("--log --log", NO),
-    ("--idle 5 --idle 5", NO),
-    ("--workers 4 --workers 4", NO),
-    ("--core=1 --core 2", NO),
-    // other words, and the program's name
-    ("--port 9010", NO),
-    ("--work 4", NO),
-    ("-w 4", NO),
-    ("--Core 1", NO),
-    ("serve", NO),
-    ("vxgate", NO),
-    ("help", NO),
-    ("--core 1 2", NO),
-    ("-- --core", NO),
-    // the first fault counts
-    ("--workers 65 --help", NO),
-    ("--port --help", NO),
-    // the version is told
-    ("--version", VERSION),
-    ("-V", VERSION),
+    (
+        "--workers +4",
+        Options {
+            workers: 4,
+            ..USUAL
+        },
+    ),
+    (
+        "--workers 0004",
+        Options {
+            workers: 4,
+            ..USUAL
+        },
+    ),
 ];
+
+/// Lines that are refused.
+static REFUSED: [&str; 46] = [
+    // above or below a range
+    "--core 0",
+    "--core 65536",
+    "--abort 0",
+    "--abort 65536",
+    "--sample 0",
+    "--sample 60001",
+    "--workers 0",
+    "--workers 65",
+    "--limit 1000001",
+    "--limit 18446744073709551616",
+    "--keepalive 86401",
+    "--send-timeout 86401",
+    "--idle 86401",
+    "--abort-idle 86401",
+    "--patience 0",
+    "--patience 1001",
+    "--keepalive=-1",
+    // no number
+    "--core x",
+    "--core 9010x",
+    "--core 0x1F90",
+    "--core 1.0",
+    "--core=-1",
+    "--core=",
+    "--core=+",
+    // no value, or another option where it should stand
+    "--workers",
+    "--core --abort 1",
+    "--core -1",
+    "--idle",
+    // a flag has no value
+    "--log 1",
+    "--log=true",
+    "--map=true",
+    // an option twice
+    "--log --log",
+    "--idle 5 --idle 5",
+    "--workers 4 --workers 4",
+    "--core=1 --core 2",
+    // other words, and the program's name
+    "--port 9010",
+    "--work 4",
+    "-w 4",
+    "--Core 1",
+    "serve",
+    "vxgate",
+    "help",
+    "--core 1 2",
+    "-- --core",
+    // the first fault counts
+    "--workers 65 --help",
+    "--port --help",
+];
+
+/// Lines that ask for the version.
+static VERSIONS: [&str; 2] = ["--version", "-V"];
+
+/// The version.
+const VERSION: &str = "vxgate 0.1.0\n";
 
 /// Lines that ask for the help.
 static HELPS: [&str; 4] = ["--help", "-h", "--workers 64 --help", "--help --port"];
@@ -201,31 +300,89 @@ static PARTS: [&str; 27] = [
     "-V, --version",
 ];
 
-/// Whether a line is answered with this text.
-fn is_answered(alloc: Global, line: &str, text: &str) -> Result<bool, AllocError> {
-    Ok(answer(alloc, line)?.as_str() == text)
+/// What a line asks for.
+fn asked(alloc: Global, line: &str) -> Result<Asked, AllocError> {
+    let words = line_words(alloc, line)?;
+    Ok(read_words(alloc, words.as_slice()))
+}
+
+/// Whether a line asks to serve with these options.
+fn is_served(alloc: Global, line: &str, options: &Options) -> Result<bool, AllocError> {
+    match asked(alloc, line)? {
+        Asked::Serve(set) => Ok(set == *options),
+        _ => Ok(false),
+    }
+}
+
+/// Whether a line is refused.
+fn is_refused(alloc: Global, line: &str) -> Result<bool, AllocError> {
+    match asked(alloc, line)? {
+        Asked::Usage => Ok(true),
+        _ => Ok(false),
+    }
+}
+
+/// The text that a line asks for; none where it asks for something else.
+fn text_of(alloc: Global, line: &str) -> Result<Option<String>, AllocError> {
+    match asked(alloc, line)? {
+        Asked::Tell(text) => Ok(Some(text)),
+        _ => Ok(None),
+    }
+}
+
+/// Whether a line is answered with the version.
+fn tells_version(alloc: Global, line: &str) -> Result<bool, AllocError> {
+    match text_of(alloc, line)? {
+        Some(text) => Ok(text.as_str() == VERSION),
+        None => Ok(false),
+    }
+}
+
+/// Whether a text has each part of the help.
+fn is_help(text: &str) -> bool {
+    let mut is_so = true;
+    for part in &PARTS {
+        is_so &= text.contains(*part);
+    }
+    is_so
 }
 
 /// Whether a line is answered with each part of the help.
-fn is_helped(alloc: Global, line: &str) -> Result<bool, AllocError> {
-    let text = answer(alloc, line)?;
-    Ok(PARTS.iter().all(|part| text.contains(*part)))
-}
-
-#[test]
-fn words_are_answered(rt: HostRuntime) -> Result<(), Fail> {
-    for (line, text) in &ROWS {
-        let is_so = is_answered(rt.alloc(), line, text)?;
-        assert!(rt; is_so, "{line}");
+fn tells_help(alloc: Global, line: &str) -> Result<bool, AllocError> {
+    match text_of(alloc, line)? {
+        Some(text) => Ok(is_help(text.as_str())),
+        None => Ok(false),
     }
-    Ok(())
 }
 
 #[test]
-fn help_tells_each_option(rt: HostRuntime) -> Result<(), Fail> {
+fn words_set_options(rt: HostRuntime) {
+    for (line, options) in &SERVED {
+        let is_so = is_served(rt.alloc(), line, options);
+        assert!(rt; is_so == Ok(true), "{line}");
+    }
+}
+
+#[test]
+fn other_words_are_refused(rt: HostRuntime) {
+    for line in &REFUSED {
+        let is_so = is_refused(rt.alloc(), line);
+        assert!(rt; is_so == Ok(true), "{line}");
+    }
+}
+
+#[test]
+fn the_version_is_told(rt: HostRuntime) {
+    for line in &VERSIONS {
+        let is_so = tells_version(rt.alloc(), line);
+        assert!(rt; is_so == Ok(true), "{line}");
+    }
+}
+
+#[test]
+fn help_tells_each_option(rt: HostRuntime) {
     for line in &HELPS {
-        let is_so = is_helped(rt.alloc(), line)?;
-        assert!(rt; is_so, "{line}");
+        let is_so = tells_help(rt.alloc(), line);
+        assert!(rt; is_so == Ok(true), "{line}");
     }
-    Ok(())
 }
