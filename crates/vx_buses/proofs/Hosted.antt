@@ -8,8 +8,8 @@ use Rattle.vx_peers.specs.Serving.{is_cut}
 use Rattle.vx_peers.proofs.Laws.{ended-spent}
 use Rattle.vx_calls.specs.declared.limits.TheConstants.{CONNECTION_LAST}
 use Rattle.vx_gate.specs.PassView.{PassView, GateId}
-use Rattle.vx_buses.specs.Four.{Four, at, Each}
-use Rattle.vx_buses.specs.Passing.{IsOf, IsFirst}
+use Rattle.vx_desks.specs.Four.{Four, at, Each}
+use Rattle.vx_desks.specs.Passing.{IsOf, IsFirst}
 use Rattle.vx_group.specs.Groups.{Group}
 use Rattle.vx_session.specs.Counting.{IsSessionClear}
 use Rattle.vx_session.proofs.Laws.{clear-first, clear-on}
@@ -17,11 +17,11 @@ use Rattle.vx_stream.specs.declared.ends.End.TheVariants as stream
 use Rattle.vx_session.specs.Placing.{Placed}
 use Rattle.vx_session.specs.declared.links.Linked.{Linked}
 use Rattle.vx_session.specs.declared.links.Linked.TheVariants as linked
-use Rattle.vx_buses.specs.Origins.{Origins}
-use Rattle.vx_buses.specs.Ending.{FleetHolding}
-use Rattle.vx_buses.specs.Linking.{LinkDid, is_own, is_whole}
+use Rattle.vx_desks.specs.Origins.{Origins}
+use Rattle.vx_desks.specs.FleetEnding.{FleetHolding}
+use Rattle.vx_desks.specs.FleetLinking.{LinkDid, is_own, is_whole}
 use Rattle.vx_buses.specs.Hosting.{IsFleetReady}
-use Rattle.vx_buses.proofs.Fours.{each-number}
+use Rattle.vx_desks.proofs.Laws.Fours.{each-number}
 use Rattle.vx_buses.proofs.Rooms.{link-counts, link-never-full}
 
 -- ---- a link

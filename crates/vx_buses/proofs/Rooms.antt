@@ -7,9 +7,9 @@ use Rattle.vx_io_traits.specs.declared.links.Link.{Ghosts}
 use Rattle.vx_calls.specs.declared.calls.Role.{Role}
 use Rattle.vx_calls.specs.declared.limits.TheConstants.{CONNECTION_LAST}
 use Rattle.vx_calls.specs.declared.calls.Role.TheVariants as role
-use Rattle.vx_buses.specs.declared.routes.counts.Count.{Count}
-use Rattle.vx_buses.specs.declared.routes.counts.Count.TheVariants as counts
-use Rattle.vx_buses.specs.Four.{Four, at, Each}
+use Rattle.vx_desks.specs.declared.routes.counts.Count.{Count}
+use Rattle.vx_desks.specs.declared.routes.counts.Count.TheVariants as counts
+use Rattle.vx_desks.specs.Four.{Four, at, Each}
 use Rattle.vx_state.specs.declared.tables.Connect.{Connect}
 use Rattle.vx_state.specs.declared.tables.Connect.TheVariants as connect
 use Rattle.vx_stream.specs.declared.ends.End.{End}
@@ -20,13 +20,13 @@ use Rattle.vx_session.specs.declared.links.Linked.{Linked}
 use Rattle.vx_session.specs.declared.links.Linked.TheVariants as linked
 use Rattle.vx_session.specs.Counting.{events_by, IsSteady, ComesAndGoes, IsSessionClear}
 use Rattle.vx_session.proofs.Laws.{append-steady, events_by-append, none-steady, called-steady, aborted-steady, came-and-went, none-came, came-undone, never-full}
-use Rattle.vx_buses.specs.Meant.{Meant, Junk, Told, Asks, Aborts, meant}
-use Rattle.vx_buses.specs.Origins.{Origins, on, OnEach}
-use Rattle.vx_buses.specs.Serving.{Item, FleetServes, IsFleetServed, placed_on, numbers}
-use Rattle.vx_buses.specs.Ending.{FleetHolding}
-use Rattle.vx_buses.specs.Joining.{Undone, outcome}
-use Rattle.vx_buses.specs.Linking.{HadSession, WasRefused, LinkDid}
-use Rattle.vx_buses.proofs.Joined.{all-up}
+use Rattle.vx_desks.specs.Meant.{Meant, Junk, Told, Asks, Aborts, meant}
+use Rattle.vx_desks.specs.Origins.{Origins, on, OnEach}
+use Rattle.vx_desks.specs.FleetServing.{Item, FleetServes, IsFleetServed, placed_on, numbers}
+use Rattle.vx_desks.specs.FleetEnding.{FleetHolding}
+use Rattle.vx_desks.specs.Joining.{Undone, outcome}
+use Rattle.vx_desks.specs.FleetLinking.{HadSession, WasRefused, LinkDid}
+use Rattle.vx_desks.proofs.Laws.Joined.{all-up}
 
 -- ---- the messages of a session
 

@@ -6,15 +6,15 @@ use Rattle.vx_door.specs.Going.{Went}
 use Rattle.vx_bus_traits.specs.declared.bus.Bus.{Ghosts}
 use Rattle.vx_core.specs.CoreState.{CoreState}
 use Rattle.vx_gate.specs.PassView.{PassView, GateId}
-use Rattle.vx_buses.specs.Four.{Four, at, Each}
-use Rattle.vx_buses.specs.Passing.{IsOf, IsFirst}
+use Rattle.vx_desks.specs.Four.{Four, at, Each}
+use Rattle.vx_desks.specs.Passing.{IsOf, IsFirst}
 use Rattle.vx_group.specs.Groups.{Group}
 use Rattle.vx_session.specs.declared.links.Linked.{Linked}
 use Rattle.vx_session.specs.declared.links.Linked.TheVariants as linked
 use Rattle.vx_session.specs.Progress.{Clocked}
 use Rattle.vx_session.specs.Counting.{IsSessionClear}
-use Rattle.vx_buses.specs.Origins.{origins}
-use Rattle.vx_buses.specs.Linking.{LinkDid}
+use Rattle.vx_desks.specs.Origins.{origins}
+use Rattle.vx_desks.specs.FleetLinking.{LinkDid}
 
 -- what it has between two links: its passes of four gates, the cores, each with its bus, that these gates were started over, its clock,
 -- and the greatest moment that that has told

@@ -13,9 +13,9 @@ use Rattle.vx_peers.specs.declared.serving.DoorStatus.TheVariants as status
 use Rattle.vx_peers.specs.Outcome.{PeerShows, PeerAsks, AsksNothing, PeerPutsLine, IsPeerServed, peer_status_number}
 use Rattle.vx_bus_traits.specs.declared.bus.Bus.{Ghosts}
 use Rattle.vx_core.specs.CoreState.{CoreState}
-use Rattle.vx_buses.specs.Four.{Four}
+use Rattle.vx_desks.specs.Four.{Four}
 use Rattle.vx_session.specs.declared.links.Linked.{Linked}
-use Rattle.vx_buses.specs.Linking.{is_own, is_whole}
+use Rattle.vx_desks.specs.FleetLinking.{is_own, is_whole}
 use Rattle.vx_buses.specs.Hosting.{Hosting, FleetBegins, PeerDid}
 
 -- the words have another form

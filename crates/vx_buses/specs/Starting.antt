@@ -2,6 +2,7 @@
 -- The four gateways of the program as they start.
 use Rattle.std.specs.Prelude.{◌≡◌, ℕ, List, [], ◌∷◌, ◌++◌, None}
 use Rattle.vx_488.specs.declared.transfers.Addr.{Addr}
+use Rattle.vx_bus_traits.specs.declared.bus.Bus.{Ghosts}
 use Rattle.vx_flow.specs.InterleavedState.{first_interleaved}
 use Rattle.vx_inst.specs.Behavior.{Behavior}
 use Rattle.vx_rack.specs.declared.Spare.{Spare}
@@ -9,7 +10,8 @@ use Rattle.vx_sim.specs.Occupants.{Seated, Boxed, handed_in}
 use Rattle.vx_sim.specs.SimState.{SimState, first_state}
 use Rattle.vx_sim.specs.Attaching.{IsAttached}
 use Rattle.vx_core.specs.CoreState.{CoreState}
-use Rattle.vx_buses.specs.Four.{Four, listed}
+use Rattle.vx_core.specs.Standing.{Became}
+use Rattle.vx_desks.specs.Four.{Four, listed}
 
 -- primary address 5, without a secondary
 abbrev pub place : Addr
@@ -32,10 +34,17 @@ AreFurnished (inst ∷ insts) (core ∷ cores) = IsFurnished inst core × AreFur
 abbrev pub StandInOrder : List Seated → Four (CoreState SimState) → Type 0
 StandInOrder insts firsts = AreFurnished insts (listed firsts)
 
--- the first instrument of a rack was taken, and a gateway over it stands behind the others
-pub record AddsCore {I : Type 0} (behaves : I → Behavior) (nature : I → List ℕ) (rack : List (Spare I)) (cores : List (CoreState SimState)) (rack' : List (Spare I)) (cores' : List (CoreState SimState)) : Type 0 where
-  pub spare : Spare I
-  pub core : CoreState SimState
-  pub rack_is : rack ≡ spare ∷ rack'
-  pub cores_are : cores' ≡ cores ++ core ∷ []
-  pub furnished : IsFurnished (handed_in behaves nature spare.inst) core
+module _ {B : Type 0} (g : Ghosts B) (stands : Seated → B → Type 0) where
+  -- a gateway with nothing in it, whose abort channel is at port 9011, over a bus on which this instrument stands
+  pub record Begins (inst : Seated) (core : CoreState B) : Type 0 where
+    pub interleaved : core.interleaved ≡ first_interleaved 9011
+    pub bus : stands inst core.bus
+    pub became : Became g.means g.through core core []
+
+  -- the first instrument of a rack was taken, and a gateway over it stands behind the others
+  pub record AddsCore {I : Type 0} (behaves : I → Behavior) (nature : I → List ℕ) (rack : List (Spare I)) (cores : List (CoreState B)) (rack' : List (Spare I)) (cores' : List (CoreState B)) : Type 0 where
+    pub spare : Spare I
+    pub core : CoreState B
+    pub rack_is : rack ≡ spare ∷ rack'
+    pub cores_are : cores' ≡ cores ++ core ∷ []
+    pub begins : Begins (handed_in behaves nature spare.inst) core

@@ -1,9 +1,8 @@
 //! Four gateways as what serves the links of a door.
-use crate::links::{LinkServer, many_link};
-use crate::{BusPass, Buses};
 use std::alloc::Global;
 use std::sync::Wait;
 use vx_bus_traits::Bus;
+use vx_desks::{BusPass, Buses, LinkServer, many_link};
 use vx_door::Door;
 use vx_io_traits::{Clock, Pause};
 use vx_peers::PeerServer;
@@ -23,10 +22,10 @@ pub(crate) struct Host<'a, R, B: Bus, C, P> {
 
 impl<'a, R: Wait, N: Door, B: Bus, C: Clock, P: Pause> PeerServer<N> for Host<'a, R, B, C, P> {
     ghost use Rattle.std.specs.Prelude.{false};
-    ghost use Rattle.vx_buses.specs.Passing.{passes_shown};
-    ghost use Rattle.vx_buses.specs.Standing.{gates_shown, firsts_shown};
+    ghost use Rattle.vx_desks.specs.Passing.{passes_shown};
+    ghost use Rattle.vx_desks.specs.Standing.{gates_shown, firsts_shown};
     ghost use Rattle.vx_buses.specs.Hosting.{IsFleetReady, PeerDid};
-    ghost use Rattle.vx_buses.specs.Linking.{is_own, is_whole};
+    ghost use Rattle.vx_desks.specs.FleetLinking.{is_own, is_whole};
 
     type End = Linked;
 

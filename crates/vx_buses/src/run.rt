@@ -1,25 +1,26 @@
 //! All that the program `vxbuses` does: the words, the port, the links that come there, the lines that are printed, and the status.
 ghost use Rattle.std.specs.Prelude.{◌≡◌, length, map, string_bytes};
 ghost use Rattle.vx_lone.specs.Lone.{handed, lone};
-ghost use Rattle.vx_buses.specs.Four.{Each};
-ghost use Rattle.vx_buses.specs.Passing.{passes_shown, IsFirst};
+ghost use Rattle.std.specs.List.{All, AllZip};
+ghost use Rattle.vx_desks.specs.Four.{Each, listed};
+ghost use Rattle.vx_desks.specs.Passing.{passes_shown, IsFirst};
 ghost use Rattle.vx_peers.specs.Asked.{IsPeerInRange};
-ghost use Rattle.vx_buses.specs.Standing.{gates_shown, firsts_shown};
+ghost use Rattle.vx_desks.specs.Standing.{gates_shown, firsts_shown};
 ghost use Rattle.vx_text.specs.Ends.{sink_shown};
-ghost use Rattle.vx_buses.specs.Starting.{StandInOrder};
+ghost use Rattle.vx_buses.specs.Starting.{Begins, StandInOrder};
 ghost use Rattle.vx_buses.specs.Outcome.{Hosts, IsFleetAskRun, IsFleetRun, FleetEndsRun, fleet_shows};
 
 use crate::hosting::Host;
-use crate::starting::start_racked;
-use crate::{BusPass, Buses};
+use crate::starting::{BusOver, start_over};
 use std::alloc::Global;
 use std::marker::Brand;
 use std::sync::Wait;
 use vx_bus_traits::Bus;
+use vx_desks::{BusPass, Buses};
 use vx_door::Door;
 use vx_inst::Instrument;
 use vx_io_traits::Sink;
-use vx_lone::Racked;
+use vx_lone::{LoneBus, Racked};
 use vx_peers::{Ask, DoorStatus, ask_of, put_line, serve_peers};
 use vx_rack::Spare;
 use vx_session::{Room, Tools};
@@ -65,7 +66,40 @@ fn serve_ask<R: Wait, B: Bus + Drop, N: Door, X: Tools, K: Sink>(
     how
 }
 
-/// Does what is asked. All memory but that of the links' connections is taken before the port is opened. `M` names the rack.
+/// Does what is asked, over buses of one kind with the instruments of the rack. All memory but that of the links' connections is taken
+/// before the port is opened.
+fn run_over<R: Wait, I: Instrument, B: BusOver<I> + Drop, N: Door, X: Tools, K: Sink>(
+    rt: &R,
+    alloc: Global,
+    ask: &Ask,
+    net: &mut N,
+    tools: &mut X,
+    sink: &mut K,
+    rack: Vec<Spare<I>>,
+) -> DoorStatus
+    requires range { IsPeerInRange ask.now }
+    requires four { length rack.items ≡ 4 }
+    requires may { All B.may (handed (λ i. I.behaves i) (λ i. I.nature i) rack.items) }
+    ensures { IsFleetAskRun B.Bus X.C.tells (fleet_shows N.Link N.Door) (λ firsts. AllZip (Begins B.Bus B.stands) (handed (λ i. I.behaves i) (λ i. I.nature i) rack.items) (listed firsts)) ask.now net.old net.new
+        (sink_shown K.Sink sink.old) (sink_shown K.Sink sink.new) result }
+{
+    let Ok(room) = Room::new(alloc) else {
+        return DoorStatus::NoMemory;
+    };
+    match start_over::<I, B>(alloc, rack) {
+        Some((buses, passes)) => {
+            let started = Started {
+                buses,
+                passes,
+                room,
+            };
+            serve_ask(rt, alloc, ask, started, net, tools, sink)
+        }
+        None => DoorStatus::NoMemory,
+    }
+}
+
+/// Does what is asked, over buses that have one instrument of the rack each. `M` names the rack.
 fn run_racked<R: Wait, I: Instrument, N: Door, X: Tools, K: Sink, M: Racked>(
     rt: &R,
     alloc: Global,
@@ -81,20 +115,7 @@ fn run_racked<R: Wait, I: Instrument, N: Door, X: Tools, K: Sink, M: Racked>(
     ensures { IsFleetAskRun (lone M.rack) X.C.tells (fleet_shows N.Link N.Door) (StandInOrder M.rack) ask.now net.old net.new
         (sink_shown K.Sink sink.old) (sink_shown K.Sink sink.new) result }
 {
-    let Ok(room) = Room::new(alloc) else {
-        return DoorStatus::NoMemory;
-    };
-    match start_racked::<I, M>(alloc, rack) {
-        Some((buses, passes)) => {
-            let started = Started {
-                buses,
-                passes,
-                room,
-            };
-            serve_ask(rt, alloc, ask, started, net, tools, sink)
-        }
-        None => DoorStatus::NoMemory,
-    }
+    run_over::<R, I, LoneBus<I, M>, N, X, K>(rt, alloc, ask, net, tools, sink, rack)
 }
 
 /// Does what is asked, over buses with the spares of the rack.

@@ -1,7 +1,3 @@
-mod Knowing
-mod Known
-mod Served
-mod Ruling
 mod OnePeer
 mod Told
 mod Runs

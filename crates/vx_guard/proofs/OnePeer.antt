@@ -21,12 +21,12 @@ use Rattle.vx_state.specs.declared.tables.Connect.TheVariants as connect
 use Rattle.vx_exchange.specs.Meaning.{Meaning, Asks, meaning}
 use Rattle.vx_policy.specs.declared.made.MadeLink.{MadeLink}
 use Rattle.vx_policy.specs.declared.rules.Rule.{Rule}
-use Rattle.vx_guard.specs.declared.sessions.GuardEnd.TheVariants as guard
-use Rattle.vx_guard.specs.declared.links.Guarded.{Guarded}
-use Rattle.vx_guard.specs.declared.links.Guarded.TheVariants as guarded
-use Rattle.vx_guard.specs.Judged.{Judged, IsDenied, IsGuarded, Guards, served}
-use Rattle.vx_guard.specs.Linking.{GuardLinkDid}
-use Rattle.vx_guard.specs.Wholes.{GuardHolding}
+use Rattle.vx_desks.specs.declared.ruled_sessions.GuardEnd.TheVariants as guard
+use Rattle.vx_desks.specs.declared.ruled_links.Guarded.{Guarded}
+use Rattle.vx_desks.specs.declared.ruled_links.Guarded.TheVariants as guarded
+use Rattle.vx_desks.specs.Judged.{Judged, IsDenied, IsGuarded, Guards, served}
+use Rattle.vx_desks.specs.RuledLinking.{GuardLinkDid}
+use Rattle.vx_desks.specs.Wholes.{GuardHolding}
 use Rattle.vx_session.specs.Counting.{events_by, IsSteady, ComesAndGoes, IsSessionClear}
 use Rattle.vx_session.proofs.Laws.{clear-first, clear-on, events_by-append, append-steady, none-steady, served-steady, came-and-went, none-came, never-full}
 use Rattle.vx_guard.specs.Peers.{CanServe, IsGuardReady, GuardHas, GuardShows, GuardsPeer, holding, is_note_fault, is_own, is_whole}

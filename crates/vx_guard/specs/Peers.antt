@@ -19,11 +19,11 @@ use Rattle.vx_session.specs.Progress.{Clocked}
 use Rattle.vx_session.specs.Counting.{IsSessionClear}
 use Rattle.vx_policy.specs.declared.rules.Rule.{Rule}
 use Rattle.vx_peers.specs.Outcome.{PeerShows}
-use Rattle.vx_guard.specs.declared.sessions.GuardEnd.TheVariants as guard
-use Rattle.vx_guard.specs.declared.links.Guarded.{Guarded}
-use Rattle.vx_guard.specs.declared.links.Guarded.TheVariants as guarded
-use Rattle.vx_guard.specs.Linking.{GuardLinkDid}
-use Rattle.vx_guard.specs.Wholes.{GuardHolding}
+use Rattle.vx_desks.specs.declared.ruled_sessions.GuardEnd.TheVariants as guard
+use Rattle.vx_desks.specs.declared.ruled_links.Guarded.{Guarded}
+use Rattle.vx_desks.specs.declared.ruled_links.Guarded.TheVariants as guarded
+use Rattle.vx_desks.specs.RuledLinking.{GuardLinkDid}
+use Rattle.vx_desks.specs.Wholes.{GuardHolding}
 
 -- what a guard has between two peers: its pass, its clock and the greatest moment that that has told, its dial, what its note took, and
 -- whether that failed

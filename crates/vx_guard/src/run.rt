@@ -1,6 +1,7 @@
 //! All that the program `vxguard` does: the words, the rules, the port, the links that come there, the lines that are printed, and the
 //! status.
 ghost use Rattle.std.specs.Prelude.{◌≡◌, [], map, string_bytes, vec_len};
+ghost use Rattle.vx_bus_traits.specs.Means.{first_means};
 ghost use Rattle.vx_peers.specs.Asked.{IsPeerInRange};
 ghost use Rattle.vx_text.specs.Ends.{sink_shown};
 ghost use Rattle.vx_session.specs.Origin.{origin};
@@ -8,17 +9,16 @@ ghost use Rattle.vx_lone.specs.Lone.{handed, lone};
 ghost use Rattle.vx_guard.specs.Outcome.{IsEnd, IsPortRun, IsRuledRun, IsGuardAskRun, IsGuardRun, GuardEndsRun, guard_ends};
 ghost use Rattle.vx_guard.specs.Peers.{CanServe, guard_shown};
 
-use crate::links::{Gateway, Kit};
 use crate::reading::{put_line, rules_of};
 use crate::serving::Guard;
-use crate::sessions::GuardRoom;
-use crate::starting::start;
+use crate::starting::{bus_of, start};
 use crate::status::GuardStatus;
 use std::alloc::Global;
 use std::marker::Brand;
 use std::sync::Wait;
 use vx_bus_traits::Bus;
 use vx_core::Core;
+use vx_desks::{Gateway, GuardRoom, Kit};
 use vx_door::{Door, Peered};
 use vx_gate::{Pass, Turns};
 use vx_inst::Instrument;
@@ -111,8 +111,43 @@ fn kit_of<X: Tools>(alloc: Global, tools: &mut X) -> Option<Kit<X::C, X::P, X::D
     })
 }
 
+/// Does what is asked by these rules, over a bus that nobody asked yet.
+fn run_over<
+    R: Wait,
+    B: Bus + Drop,
+    N: Door + Peered,
+    C: Clock + Drop,
+    P: Pause + Drop,
+    D: Dial + Drop,
+    K: Sink,
+>(
+    system: &System<'_, R>,
+    ask: &Ask,
+    policy: &Policy,
+    net: &mut N,
+    kit: &mut Kit<C, P, D>,
+    sink: &mut K,
+    bus: B,
+) -> GuardStatus
+    requires range { IsPeerInRange ask.now }
+    requires fresh { B.means bus ≡ first_means }
+    ensures { IsRuledRun (λ first. guard_shown (origin B.Bus first) C.Clock N.Link N.Door) policy.now (record { opens = N.opens; ready = N.is_ready }) ask.now net.old net.new
+        (sink_shown K.Sink sink.old) (sink_shown K.Sink sink.new) result }
+{
+    match start(system.alloc, bus) {
+        Some((gate, pass)) => {
+            let gateway = Gateway {
+                rt: system.rt,
+                alloc: system.alloc,
+                turns: &gate,
+            };
+            serve_ask(gateway, pass, policy, ask, net, kit, sink)
+        }
+        None => GuardStatus::NoMemory,
+    }
+}
+
 /// Does what is asked by these rules. All memory but that for a connection is taken before the port is opened. `M` names the rack.
-#[tactic(auto, using(crate::proofs::Runs::ruled_run))]
 fn run_racked<R: Wait, N: Door + Peered, X: Tools, K: Sink, I: Instrument, M: Racked>(
     system: &System<'_, R>,
     ask: &Ask,
@@ -131,15 +166,8 @@ fn run_racked<R: Wait, N: Door + Peered, X: Tools, K: Sink, I: Instrument, M: Ra
     let Some(mut kit) = kit_of(system.alloc, tools) else {
         return GuardStatus::NoMemory;
     };
-    match start::<I, M>(system.alloc, rack) {
-        Some((gate, pass)) => {
-            let gateway = Gateway {
-                rt: system.rt,
-                alloc: system.alloc,
-                turns: &gate,
-            };
-            serve_ask(gateway, pass, policy, ask, net, &mut kit, sink)
-        }
+    match bus_of::<I, M>(system.alloc, rack) {
+        Some(bus) => run_over(system, ask, policy, net, &mut kit, sink, bus),
         None => GuardStatus::NoMemory,
     }
 }

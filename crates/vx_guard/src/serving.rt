@@ -2,11 +2,10 @@
 ghost use Rattle.std.specs.Prelude.{◌≡◌, ◌||◌};
 ghost use Rattle.vx_guard.specs.Peers.{is_note_fault};
 
-use crate::links::{Gateway, Guarded, Kit, guarded_link};
-use crate::sessions::GuardEnd;
 use std::sync::Wait;
 use vx_bus_traits::Bus;
 use vx_core::Core;
+use vx_desks::{Gateway, GuardEnd, Guarded, Kit, guarded_link};
 use vx_door::{Door, Peered};
 use vx_gate::{Pass, Turns};
 use vx_io_traits::{Clock, Dial, Pause, Sink};

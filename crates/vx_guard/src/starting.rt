@@ -7,6 +7,7 @@ ghost use Rattle.vx_guard.specs.Outcome.{IsNew};
 ghost use Rattle.vx_lone.specs.Lone.{handed};
 
 use std::alloc::Global;
+use vx_bus_traits::Bus;
 use vx_core::Core;
 use vx_gate::{Gate, Pass};
 use vx_inst::Instrument;
@@ -16,8 +17,11 @@ use vx_rack::Spare;
 /// The port of the abort channel, which create_link tells.
 const ABORT_PORT: u16 = 9011;
 
-/// A bus with the one spare of the rack at primary address 5, and nothing else.
-fn bus_of<I: Instrument, M: Racked>(alloc: Global, rack: Vec<Spare<I>>) -> Option<LoneBus<I, M>>
+/// A bus with the one spare of the rack at primary address 5, and nothing else, that nobody asked yet.
+pub(crate) fn bus_of<I: Instrument, M: Racked>(
+    alloc: Global,
+    rack: Vec<Spare<I>>,
+) -> Option<LoneBus<I, M>>
     requires rack { vec_len rack ≡ 1 }
     requires racked { M.rack ≡ handed (λ i. I.behaves i) (λ i. I.nature i) rack.items }
     ensures fresh { IfSome result (λ bus. bus.means ≡ first_means) }
@@ -26,22 +30,19 @@ fn bus_of<I: Instrument, M: Racked>(alloc: Global, rack: Vec<Spare<I>>) -> Optio
     let Some(Spare { inst, .. }) = rack.pop() else {
         unreachable!()
     };
-    LoneBus::new(alloc, inst).ok()
+    match LoneBus::new(alloc, inst) {
+        Ok(bus) => Some(bus),
+        Err(_) => None,
+    }
 }
 
-/// A gateway over a bus with the one spare of the rack at primary address 5, on which nobody asked anything yet, behind a gate; and the
-/// gate's first pass.
-pub(crate) fn start<I: Instrument, M: Racked>(
-    alloc: Global,
-    rack: Vec<Spare<I>>,
-) -> Option<(Gate<Core<LoneBus<I, M>>>, Pass<Core<LoneBus<I, M>>>)>
-    requires rack { vec_len rack ≡ 1 }
-    requires racked { M.rack ≡ handed (λ i. I.behaves i) (λ i. I.nature i) rack.items }
+/// A gateway over a bus that nobody asked yet, behind a gate; and the gate's first pass.
+pub(crate) fn start<B: Bus + Drop>(alloc: Global, bus: B) -> Option<(Gate<Core<B>>, Pass<Core<B>>)>
+    requires fresh { B.means bus ≡ first_means }
     ensures can { IfSome result (λ r. CanServe (gate_of r.0) r.1) }
     ensures fresh { IfSome result (λ r. (r.1.seen ≡ []) × (r.1.own ≡ [])) }
     ensures first { IfSome result (λ r. IsNew (first_of r.0)) }
 {
-    let bus = bus_of(alloc, rack)?;
     let Ok(core) = Core::start(alloc, bus, ABORT_PORT) else {
         return None;
     };

@@ -3,7 +3,7 @@ ghost use Rattle.std.specs.Prelude.{◌≡◌};
 ghost use Rattle.vx_guard.specs.Outcome.{guard_status_number};
 
 /// How a run ended, as the program's exit status tells it.
-#[derive(Clone, Copy, PartialEq, Eq)]
+#[derive(Clone, Copy)]
 pub(crate) enum GuardStatus {
     /// 0: as many links were served as were asked for, or no more come.
     Served,

@@ -1,19 +1,22 @@
 //! Links that come to a port, and are served by four buses.
-ghost use Rattle.std.specs.Prelude.{IfSome};
-ghost use Rattle.vx_buses.specs.Four.{Each};
-ghost use Rattle.vx_buses.specs.Passing.{passes_shown, IsFirst};
-ghost use Rattle.vx_buses.specs.Standing.{gates_shown};
+ghost use Rattle.std.specs.Prelude.{◌≡◌, length};
+ghost use Rattle.vx_desks.specs.Four.{Each};
+ghost use Rattle.vx_desks.specs.Passing.{passes_shown, IsFirst};
+ghost use Rattle.vx_desks.specs.Standing.{gates_shown};
 
 use crate::racks::rack_of;
-use crate::serving::{Bench, Comer, serve, serve_both};
+use crate::serving::{Comer, serve, serve_both};
 use crate::status::Status;
 use crate::words::Links;
 use std::alloc::Global;
 use std::rt::Clock as SystemClock;
 use std::sync::Wait;
 use std::thread::Threads;
+use vx_bus_traits::Bus;
 use vx_buses::{BusPass, Buses, start_buses};
+use vx_inst::Instrument;
 use vx_io::{Accepted, Listen, TcpPort};
+use vx_rack::Spare;
 use vx_session::Room;
 
 /// The next link, and a room for its session.
@@ -41,39 +44,32 @@ fn comers_at(alloc: Global, port: &mut TcpPort, links: Links) -> Option<Comers> 
     }
 }
 
-/// Four buses with an echo each, and the first pass to each.
-fn fleet(alloc: Global) -> Option<(Buses<Bench>, BusPass<Bench>)>
-    ensures { IfSome result (λ r. Each IsFirst (passes_shown r.1) (gates_shown r.0)) }
-{
-    start_buses(alloc, rack_of(alloc)?)
-}
-
 /// Serves links by buses that no other link knows, and answers whether each was served to its end.
-fn serve_on<R: Threads + SystemClock + Wait + Copy + Sync>(
+fn serve_on<R: Threads + SystemClock + Wait + Copy + Sync, B: Bus + Send>(
     rt: &R,
     alloc: Global,
-    buses: &Buses<Bench>,
-    passes: BusPass<Bench>,
+    buses: &Buses<B>,
+    passes: BusPass<B>,
     comers: Comers,
 ) -> bool
     requires { Each IsFirst (passes_shown passes) (gates_shown buses.now) }
 {
     match comers {
-        Comers::One(comer) => {
-            let (_, well) = serve(rt, alloc, buses, passes, comer);
-            well
-        }
+        Comers::One(mut comer) => serve(rt, alloc, buses, passes, &mut comer),
         Comers::Two(one, other) => serve_both(rt, alloc, buses, passes, (one, other)),
     }
 }
 
-/// Serves links, and answers whether each was served to its end.
-fn serve_links<R: Threads + SystemClock + Wait + Copy + Sync>(
+/// Serves links by four buses with an instrument of the rack each, and answers whether each was served to its end.
+fn serve_links<R: Threads + SystemClock + Wait + Copy + Sync, I: Instrument + Send>(
     rt: &R,
     alloc: Global,
+    rack: Vec<Spare<I>>,
     comers: Comers,
-) -> bool {
-    match fleet(alloc) {
+) -> bool
+    requires { length rack.items ≡ 4 }
+{
+    match start_buses(alloc, rack) {
         Some((buses, passes)) => serve_on(rt, alloc, &buses, passes, comers),
         None => false,
     }
@@ -86,9 +82,9 @@ fn run<R: Threads + SystemClock + Wait + Copy + Sync>(
     port: &mut TcpPort,
     links: Links,
 ) -> bool {
-    match comers_at(alloc, port, links) {
-        Some(comers) => serve_links(rt, alloc, comers),
-        None => false,
+    match (comers_at(alloc, port, links), rack_of(alloc)) {
+        (Some(comers), Some(rack)) => serve_links(rt, alloc, rack, comers),
+        _ => false,
     }
 }
 

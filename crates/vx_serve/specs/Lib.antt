@@ -1,11 +1,5 @@
 pub mod Hosting
-pub mod Starting
-pub mod Logged
-pub mod Working
-pub use Rattle.vx_io_traits.specs.Faults
 pub use Rattle.vx_sim.specs.Means
-pub use Rattle.vx_sim.specs.SimState
-pub use Rattle.vx_gate.specs.Gates
 pub use Rattle.vx_startup.specs.Meant
 pub use Rattle.vx_startup.specs.Outcome
 pub use Rattle.vx_startup.specs.Running

@@ -1,14 +1,8 @@
-//! The server: it takes links, and workers serve them by turns at one gate.
+//! The server: its words, its bench, its ports, its workers, and the links that it takes.
 #![tactic(auto)]
 
-mod accepting;
-mod access;
-mod planning;
-mod served;
 mod server;
-mod starting;
-mod workers;
 
-pub use server::{Ended, Host, serve_bus, serve_run};
+pub use server::{Ended, Host, Serve, serve_bus, serve_run};
 pub use vx_startup::{BENCH_MAX, Logs, Place, Placed, ServerStatus};
-pub use workers::{Serve, ServeBus};
+pub use vx_workers::ServeBus;

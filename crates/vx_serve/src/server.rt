@@ -9,11 +9,6 @@ ghost use Rattle.vx_serve.specs.Hosting.{ports_shown};
 ghost use Rattle.vx_startup.specs.Running.{ServerEndsRun, LinksEnd, LinksServed, net_shown};
 ghost use Rattle.vx_startup.specs.Outcome.{ServerEnds, ServerEndsSo, IsDone};
 
-use crate::accepting::accept_links;
-use crate::access::{GateAccess, LinkAccess};
-use crate::served::Served;
-use crate::starting::{Acceptor, Unstarted, start_all};
-use crate::workers::{Attend, Duty, Job, Peer, Serve, ServeBus};
 use crossbeam_channel::Sender;
 use std::alloc::Global;
 use std::sync::Wait;
@@ -22,8 +17,16 @@ use vx_inst::Instrument;
 use vx_io_traits::{Net, Sink, Source, Spawner, Streams};
 use vx_rack::Spare;
 use vx_session::{Tally, Tools};
+use vx_sim::SimBus;
 use vx_startup::{Logs, Options, Placed, ServerStatus, announce, open_ports, prepare, tell_served};
 use vx_stream::CountingLink;
+use vx_workers::{
+    Acceptor, Attend, Duty, GateAccess, Job, LinkAccess, Peer, ServeBus, Served, Unstarted,
+    accept_links, start_all,
+};
+
+/// The work of one worker of a server over the simulated bus.
+pub type Serve<N, X, I> = ServeBus<N, X, SimBus<I>>;
 
 /// How a run of a server ended, and the links that it served.
 #[derive(Drop)]

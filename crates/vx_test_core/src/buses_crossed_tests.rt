@@ -2,20 +2,21 @@
 //! are those of RFC 5531, sections 9 and 11, and of VXI-11.
 ghost use Rattle.std.specs.Prelude.{◌≡◌, IfSome};
 ghost use Rattle.vx_calls.specs.declared.calls.Role.TheVariants as role;
-ghost use Rattle.vx_buses.specs.Four.{Each};
-ghost use Rattle.vx_buses.specs.Passing.{passes_shown, IsOf, IsFirst};
-ghost use Rattle.vx_buses.specs.Standing.{gates_shown};
-ghost use Rattle.vx_buses.specs.Holding.{four_of, FleetHolds};
+ghost use Rattle.vx_desks.specs.Four.{Each};
+ghost use Rattle.vx_desks.specs.Passing.{passes_shown, IsOf, IsFirst};
+ghost use Rattle.vx_desks.specs.Standing.{gates_shown};
+ghost use Rattle.vx_desks.specs.Holding.{four_of, FleetHolds};
 
-use crate::buses_tools::{Bench, fleet, serve_many};
+use crate::buses_tools::{fleet, serve_many};
 use crate::crossing_tools::{Crossing, Flags, Pausing, Ran, Side};
 use std::alloc::Global;
 use std::sync::Wait;
 use std::test::Fail;
 use std::thread::{self, Threads};
 use vx_bus_traits::Bus;
-use vx_buses::{BusPass, Buses, Passes, many_abort};
+use vx_buses::{BusPass, Buses, many_abort};
 use vx_calls::Role;
+use vx_desks::Passes;
 use vx_session::{End, Linked, Room, join};
 
 /// An abort connection to each bus, where all come up.
@@ -110,12 +111,12 @@ fn serve_aborter<R: Wait, B: Bus>(
 }
 
 /// Runs both sides at once, each in a thread.
-fn run_both<R: Threads + Wait + Sync>(
+fn run_both<R: Threads + Wait + Sync, B: Bus + Send>(
     rt: &R,
     alloc: Global,
-    buses: &Buses<Bench>,
-    one: BusPass<Bench>,
-    two: BusPass<Bench>,
+    buses: &Buses<B>,
+    one: BusPass<B>,
+    two: BusPass<B>,
     flags: &Flags,
     rooms: (Room, Room),
 ) -> (Ran, Ran)
@@ -141,25 +142,24 @@ fn run_both<R: Threads + Wait + Sync>(
 /// What came of both sides: how they ended, and whether their links took what they should.
 type Came = ([Option<End>; 2], [bool; 2]);
 
-fn cross<R: Threads + Wait + Sync>(
+fn cross<R: Threads + Wait + Sync, B: Bus + Drop + Send>(
     rt: &R,
     alloc: Global,
-    buses: Buses<Bench>,
-    passes: BusPass<Bench>,
+    fleet: Option<(Buses<B>, BusPass<B>)>,
     rooms: (Room, Room),
-) -> Came
-    requires { Each IsFirst (passes_shown passes) (gates_shown buses) }
+) -> Option<Came>
+    requires { IfSome fleet (λ r. Each IsFirst (passes_shown r.1) (gates_shown r.0)) }
 {
     let flags = Flags::new();
+    let (buses, passes) = fleet?;
     let (one, two) = buses.part(passes);
     let (reader, aborter) = run_both(rt, alloc, &buses, one, two, &flags, rooms);
-    ([reader.end, aborter.end], [reader.took, aborter.took])
+    Some(([reader.end, aborter.end], [reader.took, aborter.took]))
 }
 
 fn cross_anew<R: Threads + Wait + Sync>(rt: &R, alloc: Global) -> Option<Came> {
     let rooms = (Room::new(alloc).ok()?, Room::new(alloc).ok()?);
-    let (buses, passes) = fleet(alloc)?;
-    Some(cross(rt, alloc, buses, passes, rooms))
+    cross(rt, alloc, fleet(alloc), rooms)
 }
 
 #[test]

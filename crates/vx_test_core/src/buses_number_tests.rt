@@ -1,6 +1,6 @@
 //! The numbers of links over all buses.
 
-use vx_buses::{global, local};
+use vx_desks::{global, local};
 
 #[test]
 fn numbers_go_out_and_come_back(rt: HostRuntime) {

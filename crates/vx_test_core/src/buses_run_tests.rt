@@ -1,10 +1,12 @@
 //! What the program of four buses does, over a door in memory. The records are those of RFC 5531, sections 9 and 11, and of VXI-11.
+ghost use Rattle.std.specs.Prelude.{◌≡◌, length, IfSome};
 
 use crate::buses_tools::rack_of;
 use crate::run_tools::{Outside, StillTools, outside_of, went_so};
 use std::alloc::Global;
 use std::sync::Wait;
 use vx_buses::buses_run;
+use vx_rack::{Echo, Spare};
 
 // create_link of `gpib2,5` and of `GPIB0,5`; device_write of `A` with END on links 3 and 2; destroy_intr_chan
 const FIRST: [u32; 79] = [
@@ -193,15 +195,27 @@ static OTHER_WORDS: [&[&str]; 10] = [
     &["--help", "1"],
 ];
 
+/// Runs the program, where there is a rack, and answers its status.
+fn run<R: Wait>(
+    rt: &R,
+    alloc: Global,
+    outside: &mut Outside,
+    rack: Option<Vec<Spare<Echo>>>,
+) -> Option<u8>
+    requires { IfSome rack (λ r. length r.items ≡ 4) }
+{
+    let rack = rack?;
+    let Outside { words, door, sink } = outside;
+    let mut tools = StillTools { alloc };
+    Some(buses_run(rt, alloc, words, door, &mut tools, sink, rack))
+}
+
 /// Whether a row comes out as it is written, where there is memory for it.
 fn comes_out<R: Wait>(rt: &R, alloc: Global, row: &Row) -> Option<bool> {
-    let rack = rack_of(alloc)?;
     let mut outside = outside_of(alloc, row.words, row.gives, row.door_fails, row.sink_fails)?;
-    let Outside { words, door, sink } = &mut outside;
-    let mut tools = StillTools { alloc };
-    let status = buses_run(rt, alloc, words, door, &mut tools, sink, rack);
+    let status = run(rt, alloc, &mut outside, rack_of(alloc));
     let is_so = went_so(&outside, row.text.as_bytes(), row.took, row.port);
-    Some(status == row.status && is_so)
+    Some(status == Some(row.status) && is_so)
 }
 
 #[test]

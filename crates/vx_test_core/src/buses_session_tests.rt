@@ -1,7 +1,8 @@
 //! Links over four buses, and over the first two of them. The records are those of RFC 5531, sections 9 and 11, and of VXI-11.
-ghost use Rattle.vx_buses.specs.Four.{Each};
-ghost use Rattle.vx_buses.specs.Passing.{passes_shown, IsOf};
-ghost use Rattle.vx_buses.specs.Standing.{gates_shown};
+ghost use Rattle.std.specs.Prelude.{IfSome};
+ghost use Rattle.vx_desks.specs.Four.{Each};
+ghost use Rattle.vx_desks.specs.Passing.{passes_shown, IsOf, IsFirst};
+ghost use Rattle.vx_desks.specs.Standing.{gates_shown};
 
 use crate::buses_tools::fleet;
 use crate::desk_tools::serve_at_desk;
@@ -9,8 +10,8 @@ use crate::record_tools::{are_words, words};
 use std::alloc::Global;
 use std::sync::Wait;
 use vx_bus_traits::Bus;
-use vx_buses::{BusPass, Buses, Count, Fleet, FleetWorker};
 use vx_calls::Role;
+use vx_desks::{BusPass, Buses, Count, Fleet, FleetWorker};
 use vx_memory::MemLink;
 use vx_session::{End, Linked, NoTools, Room};
 
@@ -94,36 +95,39 @@ fn serve_by<R: Wait, B: Bus>(
     serve_at_desk(rt, alloc, desk, link, room)
 }
 
-/// Serves a link by so many of four gateways of its own.
-fn serve<R: Wait>(
+/// Serves a link by so many of four buses of its own, where there are these.
+fn serve<R: Wait, B: Bus + Drop>(
     rt: &R,
     alloc: Global,
+    fleet: Option<(Buses<B>, BusPass<B>)>,
     count: Count,
     link: &mut MemLink,
     room: &mut Room,
-) -> Option<Linked> {
-    let (buses, passes) = fleet(alloc)?;
+) -> Option<Linked>
+    requires { IfSome fleet (λ r. Each IsFirst (passes_shown r.1) (gates_shown r.0)) }
+{
+    let (buses, passes) = fleet?;
     Some(serve_by(rt, alloc, &buses, passes, count, link, room))
 }
 
-/// Serves a link that gives these words: how it ends, and whether it takes these.
+/// Serves a link that gives these words: how it ends, where there are buses, and whether it takes these.
 fn goes<R: Wait>(
     rt: &R,
     alloc: Global,
     count: Count,
     gives: &[u32],
     took: &[u32],
-) -> Option<(Linked, bool)> {
-    let mut room = Room::new(alloc).ok()?;
+) -> Option<(Option<Linked>, bool)> {
     let gives = words(alloc, gives, &[]).ok()?;
+    let mut room = Room::new(alloc).ok()?;
     let mut link = MemLink::new(gives, 100, Vec::new(alloc), Vec::new(alloc));
-    let how = serve(rt, alloc, count, &mut link, &mut room)?;
+    let how = serve(rt, alloc, fleet(alloc), count, &mut link, &mut room);
     Some((how, are_words(link.bytes(), took)))
 }
 
 #[test]
 fn calls_go_to_their_buses(rt: HostRuntime) {
-    let closed = Linked::Ended(End::Closed);
+    let closed = Some(Linked::Ended(End::Closed));
     for (place, (count, gives, took)) in ROWS.iter().enumerate() {
         let came = goes(&rt, rt.alloc(), *count, gives, took);
         assert!(rt; came == Some((closed, true)), "row {place}");

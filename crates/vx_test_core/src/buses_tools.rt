@@ -1,8 +1,8 @@
 //! Four buses, each with an echo at address 5, which has a status byte of its own, and links that they serve.
 ghost use Rattle.std.specs.Prelude.{◌≡◌, length, IfSome};
-ghost use Rattle.vx_buses.specs.Four.{Each};
-ghost use Rattle.vx_buses.specs.Passing.{passes_shown, IsOf, IsFirst};
-ghost use Rattle.vx_buses.specs.Standing.{gates_shown};
+ghost use Rattle.vx_desks.specs.Four.{Each};
+ghost use Rattle.vx_desks.specs.Passing.{passes_shown, IsOf, IsFirst};
+ghost use Rattle.vx_desks.specs.Standing.{gates_shown};
 
 use crate::run_tools::add;
 use std::alloc::Global;

@@ -1,15 +1,16 @@
 //! A gateway by itself, over a bus in memory: calls of one transfer to many. A poll makes 256 of them at most, and the next one goes
 //! on. The list of a write or a read of a device has three commands (UNL, and the two addresses), and then one transfer a byte (IEEE
 //! 488.1).
-ghost use Rattle.std.specs.Prelude.{◌≡◌, true};
+ghost use Rattle.std.specs.Prelude.{◌≡◌, true, IfSome};
+ghost use Rattle.vx_bus_traits.specs.Means.{first_means};
 ghost use Rattle.vx_calls.specs.Call.{call_shown};
 ghost use Rattle.vx_rules.specs.AtomicStep.{may_wait};
 ghost use Rattle.vx_rules.specs.Calls.{IsShort};
 
-use crate::gateway_tools::mem_core;
+use crate::gateway_tools::{core_over, mem_bus};
 use std::alloc::{AllocError, Global};
 use vx_488::Transfer;
-use vx_bus::MemBus;
+use vx_bus_traits::Bus;
 use vx_calls::{CallRef, DEVICE_MAX, ErrorCode, ReplyRef, Role};
 use vx_core::{Core, Polled, Why};
 
@@ -193,7 +194,7 @@ fn answered(reply: &ReplyRef<'_>, wanted: &[u8]) -> Came {
 }
 
 /// Polls the call of connection 1.
-fn poll(core: &mut Core<MemBus>, now: u64, wanted: &[u8]) -> Came {
+fn poll<B: Bus>(core: &mut Core<B>, now: u64, wanted: &[u8]) -> Came {
     if !core.pending(1) {
         return Err(None);
     }
@@ -205,7 +206,7 @@ fn poll(core: &mut Core<MemBus>, now: u64, wanted: &[u8]) -> Came {
 }
 
 /// A call comes at moment 0 on a connection that waits for nothing.
-fn arrive(core: &mut Core<MemBus>, conn: u32, call: &CallRef<'_>) -> bool
+fn arrive<B: Bus>(core: &mut Core<B>, conn: u32, call: &CallRef<'_>) -> bool
     requires waits { may_wait (call_shown call.now) ≡ true }
     requires short { IsShort (call_shown call.now) }
 {
@@ -217,7 +218,7 @@ fn arrive(core: &mut Core<MemBus>, conn: u32, call: &CallRef<'_>) -> bool
 }
 
 /// A connection makes a link to a device of this text.
-fn link(core: &mut Core<MemBus>, conn: u32, device: &[u8]) {
+fn link<B: Bus>(core: &mut Core<B>, conn: u32, device: &[u8]) {
     if device.len() > DEVICE_MAX {
         return;
     }
@@ -233,7 +234,7 @@ fn link(core: &mut Core<MemBus>, conn: u32, device: &[u8]) {
 }
 
 /// The call of a row comes.
-fn ask(core: &mut Core<MemBus>, row: &Row, bytes: &[u8]) -> bool {
+fn ask<B: Bus>(core: &mut Core<B>, row: &Row, bytes: &[u8]) -> bool {
     if let Some(request) = row.reads {
         let call = CallRef::Read {
             lid: 1,
@@ -259,7 +260,7 @@ fn ask(core: &mut Core<MemBus>, row: &Row, bytes: &[u8]) -> bool {
 }
 
 /// Polls the call until one isn't a full slice of 256 transfers.
-fn poll_on(core: &mut Core<MemBus>, wanted: &[u8]) -> Polls {
+fn poll_on<B: Bus>(core: &mut Core<B>, wanted: &[u8]) -> Polls {
     for full in 0..2000u64 {
         let came = poll(core, full * 1000, wanted);
         let moved = core.moves().len();
@@ -272,7 +273,7 @@ fn poll_on(core: &mut Core<MemBus>, wanted: &[u8]) -> Polls {
 
 /// Whether that comes of the call of a row, on link 1 to device 5 of connection 1, which is to come. A write is of these bytes, and a
 /// read is to have the first of them.
-fn comes_so(core: &mut Core<MemBus>, alloc: Global, row: &Row, bytes: &[u8]) -> bool {
+fn comes_so<B: Bus>(core: &mut Core<B>, alloc: Global, row: &Row, bytes: &[u8]) -> bool {
     let most = row.reads.unwrap_or(0) as usize;
     let count = most.min(bytes.len());
     let _ = core.connect(alloc, Role::Core);
@@ -286,12 +287,29 @@ fn comes_so(core: &mut Core<MemBus>, alloc: Global, row: &Row, bytes: &[u8]) -> 
     is_asked && polls == row.wanted && is_made
 }
 
-/// The same on a gateway of its own.
+/// The same on a gateway of its own, over a bus.
+fn comes_so_over<B: Bus + Drop>(
+    alloc: Global,
+    bus: Option<B>,
+    row: &Row,
+    bytes: &[u8],
+) -> Option<bool>
+    requires { IfSome bus (λ b. B.means b ≡ first_means) }
+{
+    let mut core = core_over(alloc, bus)?;
+    Some(comes_so(&mut core, alloc, row, bytes))
+}
+
+/// The same over the bus of the row.
 fn comes_so_anew(alloc: Global, row: &Row) -> Option<bool> {
     let bytes = numbered(alloc, row.len).ok()?;
     let gets = given(alloc, &bytes).ok()?;
-    let mut core = mem_core(alloc, &gets, row.holds, row.fails)?;
-    Some(comes_so(&mut core, alloc, row, &bytes))
+    comes_so_over(
+        alloc,
+        mem_bus(alloc, &gets, row.holds, row.fails),
+        row,
+        &bytes,
+    )
 }
 
 #[test]
@@ -307,7 +325,7 @@ fn calls_on_a_device(rt: HostRuntime) {
 
 /// A change of the own address to 5 is held before its first transfer. Then another connection links to device 5: what comes of two
 /// polls of the change, and how many transfers the second made.
-fn change_address(core: &mut Core<MemBus>, alloc: Global) -> (Came, Came, usize) {
+fn change_address<B: Bus>(core: &mut Core<B>, alloc: Global) -> (Came, Came, usize) {
     let change = CallRef::Docmd {
         lid: 1,
         flags: 0,
@@ -327,10 +345,17 @@ fn change_address(core: &mut Core<MemBus>, alloc: Global) -> (Came, Came, usize)
     (first, poll(core, 0, &[]), core.moves().len())
 }
 
-/// The same on a gateway of its own.
-fn change_address_anew(alloc: Global) -> Option<(Came, Came, usize)> {
-    let mut core = mem_core(alloc, &[], &[1], &[])?;
+/// The same on a gateway of its own, over a bus.
+fn change_address_over<B: Bus + Drop>(alloc: Global, bus: Option<B>) -> Option<(Came, Came, usize)>
+    requires { IfSome bus (λ b. B.means b ≡ first_means) }
+{
+    let mut core = core_over(alloc, bus)?;
     Some(change_address(&mut core, alloc))
+}
+
+/// The same over a bus that holds the first transfer.
+fn change_address_anew(alloc: Global) -> Option<(Came, Came, usize)> {
+    change_address_over(alloc, mem_bus(alloc, &[], &[1], &[]))
 }
 
 #[test]

@@ -1,20 +1,20 @@
 //! Two sessions at one gate, each in a thread: one waits for a lock that the other frees. The records are those of RFC 5531,
 //! sections 9 and 11, and of VXI-11.
-ghost use Rattle.std.specs.Prelude.{◌≡◌, ◌+◌};
+ghost use Rattle.std.specs.Prelude.{◌≡◌, ◌+◌, IfSome};
+ghost use Rattle.vx_bus_traits.specs.Means.{first_means};
 ghost use Rattle.vx_gate.specs.Gates.{gate_of};
 ghost use Rattle.std.specs.Thread.{IsSync};
 
 use crate::crossing_tools::{Crossing, Flags, Pausing, Ran, Side, TURNS};
-use crate::gateway_tools::{Gateway, gateway};
+use crate::gateway_tools::{gateway, mem_bus};
 use std::alloc::Global;
 use std::sync::Wait;
 use std::test::Fail;
 use std::thread::{self, Threads};
-use vx_bus::MemBus;
 use vx_bus_traits::Bus;
 use vx_calls::Role;
 use vx_core::Core;
-use vx_gate::{Pass, Turns};
+use vx_gate::{Gate, Pass, Turns};
 use vx_io_traits::Clock;
 use vx_memory::MemDial;
 use vx_session::{End, Room, core_session, join};
@@ -82,15 +82,15 @@ fn serve_side<R: Wait, B: Bus, T: Turns<Core<B>>>(
 }
 
 /// Runs both sides at once, each in a thread.
-fn run_both<R: Threads + Wait + Sync>(
+fn run_both<R: Threads + Wait + Sync, B: Bus + Send>(
     rt: &R,
     alloc: Global,
-    gate: &Gateway,
-    one: Pass<Core<MemBus>>,
-    two: Pass<Core<MemBus>>,
+    gate: &Gate<Core<B>>,
+    one: Pass<Core<B>>,
+    two: Pass<Core<B>>,
     flags: &Flags,
     rooms: (Room, Room),
-) -> (Pass<Core<MemBus>>, Ran, Ran)
+) -> (Pass<Core<B>>, Ran, Ran)
     requires { (one.gate ≡ gate_of gate.now) × (two.gate ≡ gate_of gate.now) }
     ensures { (result.0.gate ≡ one.gate) × (result.0.parts ≡ one.parts + two.parts) }
 {
@@ -113,11 +113,11 @@ fn run_both<R: Threads + Wait + Sync>(
 /// connections 1 and 2 then.
 type Came = ([Option<End>; 2], [bool; 2], bool, [Option<Role>; 2]);
 
-fn cross<R: Threads + Wait + Sync>(
+fn cross<R: Threads + Wait + Sync, B: Bus + Drop + Send>(
     rt: &R,
     alloc: Global,
-    gate: Gateway,
-    pass: Pass<Core<MemBus>>,
+    gate: Gate<Core<B>>,
+    pass: Pass<Core<B>>,
     flags: &Flags,
     rooms: (Room, Room),
 ) -> Came
@@ -135,11 +135,24 @@ fn cross<R: Threads + Wait + Sync>(
     )
 }
 
+/// The same at a gate of its own, over a bus.
+fn cross_over<R: Threads + Wait + Sync, B: Bus + Drop + Send>(
+    rt: &R,
+    alloc: Global,
+    bus: Option<B>,
+    flags: &Flags,
+    rooms: (Room, Room),
+) -> Option<Came>
+    requires { IfSome bus (λ b. B.means b ≡ first_means) }
+{
+    let (gate, pass) = gateway(alloc, bus)?;
+    Some(cross(rt, alloc, gate, pass, flags, rooms))
+}
+
 fn cross_anew<R: Threads + Wait + Sync>(rt: &R, alloc: Global) -> Option<Came> {
     let flags = Flags::new();
     let rooms = (Room::new(alloc).ok()?, Room::new(alloc).ok()?);
-    let (gate, pass) = gateway(alloc, &[])?;
-    Some(cross(rt, alloc, gate, pass, &flags, rooms))
+    cross_over(rt, alloc, mem_bus(alloc, &[], &[], &[]), &flags, rooms)
 }
 
 #[test]

@@ -1,7 +1,6 @@
 //! Gateways over a bus in memory.
 ghost use Rattle.std.specs.Prelude.{◌≡◌, [], IfSome};
 ghost use Rattle.vx_bus_traits.specs.Means.{first_means};
-ghost use Rattle.vx_bus.specs.MemState.{MemState, Through as MemThrough};
 ghost use Rattle.vx_core.specs.Standing.{Became};
 ghost use Rattle.vx_gate.specs.Gates.{gate_of};
 
@@ -14,12 +13,13 @@ use vx_gate::{Gate, Pass};
 /// The port of the abort channel.
 pub(crate) const PORT: u16 = 9011;
 
-pub(crate) type Gateway = Gate<Core<MemBus>>;
-
-pub(crate) type Turn = Pass<Core<MemBus>>;
-
 /// A bus over memory that gives these bytes, and of whose moving calls these are held, and these fail.
-fn mem_bus(alloc: Global, gets: &[(u8, bool)], holds: &[u64], fails: &[u64]) -> Option<MemBus>
+pub(crate) fn mem_bus(
+    alloc: Global,
+    gets: &[(u8, bool)],
+    holds: &[u64],
+    fails: &[u64],
+) -> Option<MemBus>
     ensures { IfSome result (λ bus. bus.means ≡ first_means) }
 {
     let gets = gets.to_vec(alloc).ok()?;
@@ -28,17 +28,12 @@ fn mem_bus(alloc: Global, gets: &[(u8, bool)], holds: &[u64], fails: &[u64]) -> 
     MemBus::new(alloc, gets, holds, fails).ok()
 }
 
-/// A gateway with nothing in it, over such a bus.
-pub(crate) fn mem_core(
-    alloc: Global,
-    gets: &[(u8, bool)],
-    holds: &[u64],
-    fails: &[u64],
-) -> Option<Core<MemBus>>
-    ensures { IfSome result (λ core. Became (λ (s : MemState). s.means) MemThrough core core []) }
+/// A gateway with nothing in it, over a bus, where there is one.
+pub(crate) fn core_over<B: Bus + Drop>(alloc: Global, bus: Option<B>) -> Option<Core<B>>
+    requires { IfSome bus (λ b. B.means b ≡ first_means) }
+    ensures { IfSome result (λ core. Became B.means B.through core core []) }
 {
-    let bus = mem_bus(alloc, gets, holds, fails)?;
-    Core::start(alloc, bus, PORT).ok()
+    Core::start(alloc, bus?, PORT).ok()
 }
 
 /// A gate round a gateway with nothing in it, and its pass.
@@ -56,10 +51,14 @@ pub(crate) fn gate_round<B: Bus + Drop>(
     }
 }
 
-/// The same over a bus in memory of which these moving calls are held.
-pub(crate) fn gateway(alloc: Global, holds: &[u64]) -> Option<(Gateway, Turn)>
+/// A gate round a gateway with nothing in it, over a bus, where there is one, and its pass.
+pub(crate) fn gateway<B: Bus + Drop>(
+    alloc: Global,
+    bus: Option<B>,
+) -> Option<(Gate<Core<B>>, Pass<Core<B>>)>
+    requires { IfSome bus (λ b. B.means b ≡ first_means) }
     ensures gate { IfSome result (λ r. r.1.gate ≡ gate_of r.0) }
     ensures parts { IfSome result (λ r. r.1.parts ≡ 4294967296) }
 {
-    gate_round(alloc, mem_core(alloc, &[], holds, &[])?)
+    gate_round(alloc, core_over(alloc, bus)?)
 }

@@ -304,27 +304,28 @@ fn rack_of(alloc: Global) -> Option<Vec<Spare<Echo>>>
     Some(rack)
 }
 
-/// Runs a guard by these rules, and answers its status.
+/// Runs a guard by these rules, where there is a rack, and answers its status.
 fn run<R: Wait>(
     rt: &R,
     alloc: Global,
     rules: &mut MemSource,
     outside: &mut Outside,
-    rack: Vec<Spare<Echo>>,
-) -> u8
-    requires { vec_len rack ≡ 1 }
+    rack: Option<Vec<Spare<Echo>>>,
+) -> Option<u8>
+    requires { IfSome rack (λ r. vec_len r ≡ 1) }
 {
+    let rack = rack?;
     let Outside { words, door, sink } = outside;
     let mut tools = StillTools { alloc };
-    guard_run(rt, alloc, words, rules, door, &mut tools, sink, rack)
+    Some(guard_run(rt, alloc, words, rules, door, &mut tools, sink, rack))
 }
 
 /// Runs a row, and answers whether it went as the row says.
 fn went<R: Wait>(rt: &R, alloc: Global, row: &Row) -> Option<bool> {
     let mut rules = rules_of(alloc, row)?;
     let mut outside = outside_of(alloc, row.words, row.gives, row.door_fails, row.sink_fails)?;
-    let status = run(rt, alloc, &mut rules, &mut outside, rack_of(alloc)?);
-    Some(status == row.status && went_so(&outside, row.text, row.took, row.port))
+    let status = run(rt, alloc, &mut rules, &mut outside, rack_of(alloc));
+    Some(status == Some(row.status) && went_so(&outside, row.text, row.took, row.port))
 }
 
 #[test]

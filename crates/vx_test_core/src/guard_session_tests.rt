@@ -1,7 +1,8 @@
 //! Sessions that are guarded by rules, each by a gateway of its own. The records are those of RFC 5531, sections 9 and 11, and of VXI-11.
-ghost use Rattle.std.specs.Prelude.{◌≡◌};
+ghost use Rattle.std.specs.Prelude.{◌≡◌, IfSome};
+ghost use Rattle.vx_bus_traits.specs.Means.{first_means};
 
-use crate::gateway_tools::gateway;
+use crate::gateway_tools::{gateway, mem_bus};
 use crate::guard_tools::{BOTH_DENIED, CREATE_AND_WRITE, CREATED, DENIED, WRITTEN};
 use crate::record_tools::{are_words, words};
 use std::alloc::Global;
@@ -121,8 +122,8 @@ struct Outside {
 /// The same of a row.
 fn outside_of(alloc: Global, row: &Row) -> Option<Outside> {
     let fails = row.note_fails.to_vec(alloc).ok()?;
-    let room = GuardRoom::new(alloc).ok()?;
     let door = met(alloc, row.gives)?;
+    let room = GuardRoom::new(alloc).ok()?;
     let note = MemSink::new(Vec::new(alloc), fails);
     Some(Outside { door, room, note })
 }
@@ -152,14 +153,17 @@ fn serve_at<R: Wait, B: Bus, T: Turns<Core<B>>>(
     Some(how)
 }
 
-/// The same at a gateway of its own.
-fn serve<R: Wait>(
+/// The same at a gateway of its own, over a bus.
+fn serve<R: Wait, B: Bus + Drop>(
     rt: &R,
     alloc: Global,
+    bus: Option<B>,
     policy: &Policy,
     outside: &mut Outside,
-) -> Option<GuardEnd> {
-    let (gate, pass) = gateway(alloc, &[])?;
+) -> Option<GuardEnd>
+    requires { IfSome bus (λ b. B.means b ≡ first_means) }
+{
+    let (gate, pass) = gateway(alloc, bus)?;
     serve_at(rt, alloc, &gate, pass, policy, outside)
 }
 
@@ -167,7 +171,8 @@ fn serve<R: Wait>(
 fn went<R: Wait>(rt: &R, alloc: Global, row: &Row) -> Option<bool> {
     let policy = policy_of(alloc, row.rules)?;
     let mut outside = outside_of(alloc, row)?;
-    let how = serve(rt, alloc, &policy, &mut outside);
+    let bus = mem_bus(alloc, &[], &[], &[]);
+    let how = serve(rt, alloc, bus, &policy, &mut outside);
     let took = are_words(outside.door.sent(0).unwrap_or(&[0]), row.took);
     Some(how == Some(row.how) && took && outside.note.bytes() == row.note)
 }

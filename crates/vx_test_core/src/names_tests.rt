@@ -1,9 +1,10 @@
 //! A table of names for devices, and sessions at a desk with names, each by a gateway of its own. The records are those of RFC 5531,
 //! sections 9 and 11, and of VXI-11.
-ghost use Rattle.std.specs.Prelude.{◌≡◌};
+ghost use Rattle.std.specs.Prelude.{◌≡◌, IfSome};
+ghost use Rattle.vx_bus_traits.specs.Means.{first_means};
 
 use crate::desk_tools::serve_at_desk;
-use crate::gateway_tools::gateway;
+use crate::gateway_tools::{gateway, mem_bus};
 use crate::guard_tools::{CREATE_AND_WRITE, WRITTEN};
 use crate::record_tools::{are_words, words};
 use std::alloc::Global;
@@ -11,9 +12,9 @@ use std::sync::Wait;
 use vx_bus_traits::Bus;
 use vx_calls::Role;
 use vx_core::Core;
+use vx_desks::{NameRefused, NameTable, Named};
 use vx_gate::{Pass, Turns};
 use vx_memory::MemLink;
-use vx_names::{NameRefused, NameTable, Named};
 use vx_session::{End, Linked, NoTools, OneBus, Room, Worker};
 
 /// A name, and the device text that it is to stand for.
@@ -212,31 +213,35 @@ fn serve_at<R: Wait, B: Bus, T: Turns<Core<B>>>(
     serve_at_desk(rt, alloc, Named { desk, names }, link, room)
 }
 
-/// The same at a gateway of its own.
-fn serve<R: Wait>(
+/// The same at a gateway of its own, over a bus.
+fn serve<R: Wait, B: Bus + Drop>(
     rt: &R,
     alloc: Global,
+    bus: Option<B>,
     names: &NameTable,
     room: &mut Room,
     link: &mut MemLink,
-) -> Option<Linked> {
-    let (gate, pass) = gateway(alloc, &[])?;
+) -> Option<Linked>
+    requires { IfSome bus (λ b. B.means b ≡ first_means) }
+{
+    let (gate, pass) = gateway(alloc, bus)?;
     Some(serve_at(rt, alloc, &gate, pass, names, room, link))
 }
 
-/// Serves the link of a row: how it ends, and whether it takes what it should.
-fn goes<R: Wait>(rt: &R, alloc: Global, row: &Row) -> Option<(Linked, bool)> {
-    let mut room = Room::new(alloc).ok()?;
-    let names = table_of(alloc, row.names)?;
+/// Serves the link of a row: how it ends, where there is a bus, and whether it takes what it should.
+fn goes<R: Wait>(rt: &R, alloc: Global, row: &Row) -> Option<(Option<Linked>, bool)> {
     let gives = words(alloc, row.gives, &[]).ok()?;
+    let names = table_of(alloc, row.names)?;
+    let mut room = Room::new(alloc).ok()?;
     let mut link = MemLink::new(gives, 4096, Vec::new(alloc), Vec::new(alloc));
-    let how = serve(rt, alloc, &names, &mut room, &mut link)?;
+    let bus = mem_bus(alloc, &[], &[], &[]);
+    let how = serve(rt, alloc, bus, &names, &mut room, &mut link);
     Some((how, are_words(link.bytes(), row.took)))
 }
 
 #[test]
 fn sessions_at_a_desk_with_names(rt: HostRuntime) {
-    let closed = Linked::Ended(End::Closed);
+    let closed = Some(Linked::Ended(End::Closed));
     for row in &ROWS {
         let came = goes(&rt, rt.alloc(), row);
         assert!(rt; came == Some((closed, true)), "{}", row.name);

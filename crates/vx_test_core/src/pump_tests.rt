@@ -1,6 +1,7 @@
 //! Pumps of the channel of a connection with two interrupts in its outbox. The record is the one of RFC 5531, section 9, and of
 //! VXI-11, device_intr_srq.
 ghost use Rattle.std.specs.Prelude.{◌≡◌, ◌≤◌, true, length, IfSome};
+ghost use Rattle.vx_bus_traits.specs.Means.{first_means};
 ghost use Rattle.vx_calls.specs.Call.{call_shown};
 ghost use Rattle.vx_calls.specs.declared.calls.Role.TheVariants as role;
 ghost use Rattle.vx_rules.specs.AtomicStep.{may_wait};
@@ -9,8 +10,8 @@ ghost use Rattle.vx_exchange.specs.declared.record.TheConstants.{REPLY_ROOM};
 ghost use Rattle.vx_group.specs.Phases.{Idle};
 ghost use Rattle.vx_session.specs.Turning.{phase_at};
 
-use crate::gateway_tools::gate_round;
-use crate::pump_tools::{echo_core, handle};
+use crate::gateway_tools::gateway;
+use crate::pump_tools::{echo_bus, handle};
 use crate::record_tools::are_words;
 use crate::session_tests::Pauses;
 use std::alloc::{AllocError, Global};
@@ -166,18 +167,19 @@ fn pump_enabled<R: Wait, B: Bus, T: Turns<Core<B>>>(
     Some(pump(rt, turns, pass, 1, chan, link, &mut pauses).1)
 }
 
-/// The same at a gate of its own, round a gateway whose bus has an instrument that asks for service.
-fn run_pump<R: Wait>(
+/// The same at a gate of its own, over a bus.
+fn run_pump<R: Wait, B: Bus + Drop>(
     rt: &R,
     alloc: Global,
+    bus: Option<B>,
     chan: u32,
     link: &mut MemLink,
     reply: &mut [u8],
 ) -> Option<PumpEnd>
+    requires bus { IfSome bus (λ b. B.means b ≡ first_means) }
     requires room { REPLY_ROOM ≤ length reply.old }
 {
-    let core = echo_core(alloc, 0x40)?;
-    let (gate, pass) = gate_round(alloc, core)?;
+    let (gate, pass) = gateway(alloc, bus)?;
     pump_enabled(rt, alloc, &gate, pass, chan, link, reply)
 }
 
@@ -197,7 +199,14 @@ fn pumped<R: Wait>(
     let mut reply = vec![in alloc; 0; REPLY_ROOM]?;
     let fails = vec![in alloc; fails; 1]?;
     let mut link = MemLink::new(Vec::new(alloc), 1, Vec::new(alloc), fails);
-    let end = run_pump(rt, alloc, chan, &mut link, &mut reply);
+    let end = run_pump(
+        rt,
+        alloc,
+        echo_bus(alloc, 0x40),
+        chan,
+        &mut link,
+        &mut reply,
+    );
     Ok((end, are_words(link.bytes(), took)))
 }
 

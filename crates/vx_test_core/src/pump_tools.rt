@@ -1,14 +1,11 @@
-//! A gateway with an instrument that asks for service, and handles as their bytes.
-ghost use Rattle.std.specs.Prelude.{◌≡◌, [], IfSome};
-ghost use Rattle.vx_core.specs.Standing.{Became};
-ghost use Rattle.vx_sim.specs.SimState.{SimState, Through};
+//! A bus with an instrument that asks for service, and handles as their bytes.
+ghost use Rattle.std.specs.Prelude.{◌≡◌, IfSome};
+ghost use Rattle.vx_bus_traits.specs.Means.{first_means};
 
-use crate::gateway_tools::PORT;
 use arrayvec::ArrayVec;
 use std::alloc::Global;
 use vx_488::Addr;
 use vx_calls::Handle;
-use vx_core::Core;
 use vx_rack::Echo;
 use vx_sim::SimBus;
 
@@ -26,9 +23,9 @@ fn hang(bus: &mut SimBus<Echo>, echo: Echo, status: u8) -> bool
     }
 }
 
-/// A gateway with nothing in it, over a bus with such an instrument, which asks for service where its status byte has the bit 0x40.
-pub(crate) fn echo_core(alloc: Global, status: u8) -> Option<Core<SimBus<Echo>>>
-    ensures { IfSome result (λ core. Became (λ (s : SimState). s.means) Through core core []) }
+/// A bus with such an instrument, which asks for service where its status byte has the bit 0x40.
+pub(crate) fn echo_bus(alloc: Global, status: u8) -> Option<SimBus<Echo>>
+    ensures { IfSome result (λ bus. bus.means ≡ first_means) }
 {
     let Ok(echo) = Echo::new(alloc) else {
         return None;
@@ -36,10 +33,7 @@ pub(crate) fn echo_core(alloc: Global, status: u8) -> Option<Core<SimBus<Echo>>>
     let Ok(mut bus) = SimBus::new(alloc) else {
         return None;
     };
-    if !hang(&mut bus, echo, status) {
-        return None;
-    }
-    Core::start(alloc, bus, PORT).ok()
+    hang(&mut bus, echo, status).then_some(bus)
 }
 
 /// A handle of these bytes, of which there are at most 40.

@@ -1,8 +1,9 @@
 //! A session to four buses whose calls are judged by rules: a ruled desk over a fleet. The records are those of RFC 5531, sections 9
 //! and 11, and of VXI-11.
-ghost use Rattle.vx_buses.specs.Four.{Each};
-ghost use Rattle.vx_buses.specs.Passing.{passes_shown, IsOf};
-ghost use Rattle.vx_buses.specs.Standing.{gates_shown};
+ghost use Rattle.std.specs.Prelude.{IfSome};
+ghost use Rattle.vx_desks.specs.Four.{Each};
+ghost use Rattle.vx_desks.specs.Passing.{passes_shown, IsOf, IsFirst};
+ghost use Rattle.vx_desks.specs.Standing.{gates_shown};
 
 use crate::buses_tools::fleet;
 use crate::desk_tools::serve_at_desk;
@@ -10,9 +11,8 @@ use crate::record_tools::{are_words, words};
 use std::alloc::Global;
 use std::sync::Wait;
 use vx_bus_traits::Bus;
-use vx_buses::{BusPass, Buses, Count, Fleet, FleetWorker};
 use vx_calls::Role;
-use vx_guard::Ruled;
+use vx_desks::{BusPass, Buses, Count, Fleet, FleetWorker, Ruled};
 use vx_memory::{MemLink, MemSink};
 use vx_policy::{KnownLinks, Policy};
 use vx_session::{Desk, End, Linked, NoTools, Room};
@@ -103,16 +103,23 @@ fn serve_by<R: Wait, B: Bus>(
     serve_ruled(rt, alloc, desk, kit)
 }
 
-/// The same by four gateways of its own.
-fn serve<R: Wait>(rt: &R, alloc: Global, kit: &mut Kit) -> Option<Linked> {
-    let (buses, passes) = fleet(alloc)?;
+/// The same by four buses of its own, where there are these.
+fn serve<R: Wait, B: Bus + Drop>(
+    rt: &R,
+    alloc: Global,
+    fleet: Option<(Buses<B>, BusPass<B>)>,
+    kit: &mut Kit,
+) -> Option<Linked>
+    requires { IfSome fleet (λ r. Each IsFirst (passes_shown r.1) (gates_shown r.0)) }
+{
+    let (buses, passes) = fleet?;
     Some(serve_by(rt, alloc, &buses, passes, kit))
 }
 
-/// How it ends, and whether the link and the note took what they should.
-fn goes<R: Wait>(rt: &R, alloc: Global) -> Option<(Linked, bool)> {
+/// How it ends, where there are buses, and whether the link and the note took what they should.
+fn goes<R: Wait>(rt: &R, alloc: Global) -> Option<(Option<Linked>, bool)> {
     let mut kit = kit_of(alloc)?;
-    let how = serve(rt, alloc, &mut kit)?;
+    let how = serve(rt, alloc, fleet(alloc), &mut kit);
     let is_told = are_words(kit.link.bytes(), &TOOK)
         && kit.note.bytes() == b"deny 1 1\n".as_slice();
     Some((how, is_told))
@@ -120,6 +127,6 @@ fn goes<R: Wait>(rt: &R, alloc: Global) -> Option<(Linked, bool)> {
 
 #[test]
 fn rules_over_buses(rt: HostRuntime) {
-    let closed = Linked::Ended(End::Closed);
+    let closed = Some(Linked::Ended(End::Closed));
     assert!(rt; goes(&rt, rt.alloc()) == Some((closed, true)));
 }

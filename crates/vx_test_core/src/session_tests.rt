@@ -1,8 +1,12 @@
 //! Links that are served, each by a gateway of its own. The records are those of RFC 5531, sections 9 and 11, and of VXI-11.
-use crate::gateway_tools::gateway;
-use crate::record_tools::{add_words, are_words, words};
+ghost use Rattle.std.specs.Prelude.{◌≡◌, IfSome};
+ghost use Rattle.vx_bus_traits.specs.Means.{first_means};
+
+use crate::gateway_tools::{gateway, mem_bus};
+use crate::record_tools::{add_words, are_words};
 use std::alloc::{AllocError, Global};
 use std::sync::Wait;
+use vx_bus_traits::Bus;
 use vx_io_traits::{Clock, Pause, Rang};
 use vx_memory::{MemClock, MemDial, MemLink};
 use vx_session::{End, LinkDone, Linked, Room, Tally, core_link};
@@ -11,10 +15,10 @@ use vx_session::{End, LinkDone, Linked, Room, Tally, core_link};
 #[derive(Clone, Copy)]
 struct Row {
     name: &'static str,
-    /// The words that the link gives, bytes behind them, and pieces of words behind these.
+    /// The words that the link gives; a byte behind them, and how often; and pieces behind these, of words and so many words of 0.
     gives: &'static [u32],
-    rest: &'static [u8],
-    more: &'static [&'static [u32]],
+    rest: (u8, usize),
+    more: &'static [(&'static [u32], usize)],
     /// How many bytes a receive gives, at most.
     piece: usize,
     /// Which of its calls fail, of receives and sends together.
@@ -47,13 +51,11 @@ const WRITE_254: [u32; 16] = [
     0x8000013C, 2, 0, 2, 0x0607AF, 1, 11, 0, 0, 0, 0, 1, 1000, 0, 8, 254,
 ];
 
-const DATA_254: [u32; 64] = [0; 64];
-
 /// The create_link, of which nothing fails.
 const PLAIN: Row = Row {
     name: "a create_link",
     gives: &CREATE,
-    rest: &[],
+    rest: (0, 0),
     more: &[],
     piece: 100,
     fails: &[],
@@ -70,7 +72,7 @@ const PLAIN: Row = Row {
 /// Behind a call of more than a slice a session pauses once.
 const SLICED: Row = Row {
     name: "a write of 257 transfers",
-    more: &[&WRITE_254, &DATA_254],
+    more: &[(&WRITE_254, 64)],
     piece: 4096,
     took: &[
         0x80000028, 1, 1, 0, 0, 0, 0, 0, 1, 9011, 262144, 0x80000020, 2, 1, 0, 0, 0, 0, 0, 254,
@@ -91,7 +93,7 @@ static ROWS: [Row; 26] = [
     Row {
         name: "an input that ends in a record",
         gives: &[0x80000040, 1],
-        rest: &[0, 0],
+        rest: (0, 2),
         piece: 4,
         how: Linked::Ended(End::CutShort { bytes: 10 }),
         took: &[],
@@ -100,7 +102,7 @@ static ROWS: [Row; 26] = [
     Row {
         name: "a record of one byte",
         gives: &[0x80000001],
-        rest: &[0],
+        rest: (0, 1),
         piece: 4,
         how: Linked::Ended(End::Junk { length: 1 }),
         took: &[],
@@ -131,7 +133,7 @@ static ROWS: [Row; 26] = [
     Row {
         name: "a credential of 401 bytes",
         gives: &[0x800001BC, 1, 0, 2, 0x0607AF, 1, 10, 0, 401],
-        rest: &[0; 412],
+        rest: (0, 412),
         how: Linked::Ended(End::Junk { length: 444 }),
         took: &[],
         ..PLAIN
@@ -156,7 +158,7 @@ static ROWS: [Row; 26] = [
         gives: &[
             0x80000138, 1, 0, 2, 0x0607AF, 1, 10, 0, 0, 0, 0, 0, 0, 0, 256,
         ],
-        rest: &[0x67; 256],
+        rest: (0x67, 256),
         took: &GARBAGE,
         ..PLAIN
     },
@@ -255,12 +257,12 @@ static ROWS: [Row; 26] = [
     SLICED,
     Row {
         name: "a write of 256 transfers, in one poll",
-        more: &[
+        more: &[(
             &[
                 0x8000013C, 2, 0, 2, 0x0607AF, 1, 11, 0, 0, 0, 0, 1, 1000, 0, 8, 253,
             ],
-            &DATA_254,
-        ],
+            64,
+        )],
         took: &[
             0x80000028, 1, 1, 0, 0, 0, 0, 0, 1, 9011, 262144, 0x80000020, 2, 1, 0, 0, 0, 0, 0, 253,
         ],
@@ -269,12 +271,12 @@ static ROWS: [Row; 26] = [
     },
     Row {
         name: "a write of 4,003 transfers: 15 full slices, and 163",
-        more: &[
+        more: &[(
             &[
                 0x80000FDC, 2, 0, 2, 0x0607AF, 1, 11, 0, 0, 0, 0, 1, 1000, 0, 8, 4000,
             ],
-            &[0; 1000],
-        ],
+            1000,
+        )],
         took: &[
             0x80000028, 1, 1, 0, 0, 0, 0, 0, 1, 9011, 262144, 0x80000020, 2, 1, 0, 0, 0, 0, 0, 4000,
         ],
@@ -284,11 +286,13 @@ static ROWS: [Row; 26] = [
     Row {
         name: "a write of one poll behind one of two",
         more: &[
-            &WRITE_254,
-            &DATA_254,
-            &[
-                0x80000040, 2, 0, 2, 0x0607AF, 1, 11, 0, 0, 0, 0, 1, 1000, 0, 8, 1, 0,
-            ],
+            (&WRITE_254, 64),
+            (
+                &[
+                    0x80000040, 2, 0, 2, 0x0607AF, 1, 11, 0, 0, 0, 0, 1, 1000, 0, 8, 1,
+                ],
+                1,
+            ),
         ],
         took: &[
             0x80000028, 1, 1, 0, 0, 0, 0, 0, 1, 9011, 262144, 0x80000020, 2, 1, 0, 0, 0, 0, 0, 254,
@@ -299,7 +303,7 @@ static ROWS: [Row; 26] = [
     },
     Row {
         name: "two writes of two polls each",
-        more: &[&WRITE_254, &DATA_254, &WRITE_254, &DATA_254],
+        more: &[(&WRITE_254, 64), (&WRITE_254, 64)],
         took: &[
             0x80000028, 1, 1, 0, 0, 0, 0, 0, 1, 9011, 262144, 0x80000020, 2, 1, 0, 0, 0, 0, 0, 254,
             0x80000020, 2, 1, 0, 0, 0, 0, 0, 254,
@@ -317,11 +321,14 @@ static ROWS: [Row; 26] = [
     // but the last pauses
     Row {
         name: "a wait for a lock",
-        more: &[&[
-            0x80000040, 2, 0, 2, 0x0607AF, 1, 10, 0, 0, 0, 0, 42, 0, 0, 7, 0x67706962, 0x302C3500,
-            0x80000034, 3, 0, 2, 0x0607AF, 1, 18, 0, 0, 0, 0, 1, 0, 0, 0x80000034, 4, 0, 2,
-            0x0607AF, 1, 18, 0, 0, 0, 0, 2, 1, 10,
-        ]],
+        more: &[(
+            &[
+                0x80000040, 2, 0, 2, 0x0607AF, 1, 10, 0, 0, 0, 0, 42, 0, 0, 7, 0x67706962,
+                0x302C3500, 0x80000034, 3, 0, 2, 0x0607AF, 1, 18, 0, 0, 0, 0, 1, 0, 0, 0x80000034,
+                4, 0, 2, 0x0607AF, 1, 18, 0, 0, 0, 0, 2, 1, 10,
+            ],
+            0,
+        )],
         piece: 4096,
         moments: &[1, 2, 3, 4, 5, 6, 7, 8, 9, 10, 11, 12, 13, 14],
         took: &[
@@ -372,9 +379,9 @@ struct Outside {
 
 /// The same of a row.
 fn outside_of(alloc: Global, row: &Row) -> Option<Outside> {
-    let room = Room::new(alloc).ok()?;
     let moments = row.moments.to_vec(alloc).ok()?;
     let fails = row.dial_fails.to_vec(alloc).ok()?;
+    let room = Room::new(alloc).ok()?;
     Some(Outside {
         clock: Asked {
             clock: MemClock::new(moments),
@@ -386,25 +393,45 @@ fn outside_of(alloc: Global, row: &Row) -> Option<Outside> {
     })
 }
 
+/// Puts a byte behind others, so often.
+fn add_often(bytes: &mut Vec<u8>, byte: u8, times: usize) -> Result<(), AllocError> {
+    for _ in 0..times {
+        bytes.push(byte)?;
+    }
+    Ok(())
+}
+
+/// Puts what the link of a row gives behind other bytes.
+fn add_given(bytes: &mut Vec<u8>, row: &Row) -> Result<(), AllocError> {
+    let (byte, times) = row.rest;
+    add_words(bytes, row.gives)?;
+    add_often(bytes, byte, times)?;
+    for (piece, zeros) in row.more {
+        add_words(bytes, piece)?;
+        add_often(bytes, 0, zeros.saturating_mul(4))?;
+    }
+    Ok(())
+}
+
 /// The link of a row.
 fn link_of(alloc: Global, row: &Row) -> Result<MemLink, AllocError> {
-    let mut gives = words(alloc, row.gives, row.rest)?;
-    for piece in row.more {
-        add_words(&mut gives, piece)?;
-    }
+    let mut gives = Vec::new(alloc);
+    add_given(&mut gives, row)?;
     let fails = row.fails.to_vec(alloc)?;
     Ok(MemLink::new(gives, row.piece.max(1), Vec::new(alloc), fails))
 }
 
-/// Serves the link of a row by a gateway of its own.
-fn serve<R: Wait>(
+/// Serves a link by a gateway of its own, over a bus.
+fn serve<R: Wait, B: Bus + Drop>(
     rt: &R,
     alloc: Global,
-    row: &Row,
+    bus: Option<B>,
+    link: MemLink,
     outside: &mut Outside,
-) -> Option<LinkDone<MemLink>> {
-    let link = link_of(alloc, row).ok()?;
-    let (gate, pass) = gateway(alloc, row.holds)?;
+) -> Option<LinkDone<MemLink>>
+    requires { IfSome bus (λ b. B.means b ≡ first_means) }
+{
+    let (gate, pass) = gateway(alloc, bus)?;
     let Outside {
         clock,
         pauses,
@@ -433,7 +460,9 @@ fn is_so(done: LinkDone<MemLink>, outside: &Outside, row: &Row) -> bool {
 /// The same of a link that is served now, where there is memory for it.
 fn goes_so<R: Wait>(rt: &R, alloc: Global, row: &Row) -> Option<bool> {
     let mut outside = outside_of(alloc, row)?;
-    let done = serve(rt, alloc, row, &mut outside)?;
+    let link = link_of(alloc, row).ok()?;
+    let bus = mem_bus(alloc, &[], row.holds, &[]);
+    let done = serve(rt, alloc, bus, link, &mut outside)?;
     Some(is_so(done, &outside, row))
 }
 

@@ -3,8 +3,8 @@ use Rattle.vx_door.proofs.Laws.{went_keeps}
 use Rattle.vx_door.specs.Going.{Went}
 use Rattle.vx_door.specs.Meeting.{KeepsCounts}
 use Rattle.vx_door.specs.Shown.{door_told}
-use Rattle.vx_buses.specs.Passing.{passes_shown}
-use Rattle.vx_buses.specs.Standing.{gates_shown, firsts_shown}
+use Rattle.vx_desks.specs.Passing.{passes_shown}
+use Rattle.vx_desks.specs.Standing.{gates_shown, firsts_shown}
 use Rattle.vx_peers.proofs.Laws.{told_served}
 use Rattle.vx_buses.specs.Hosting.{Hosting}
 use Rattle.vx_buses.specs.Outcome.{FleetShows, fleet_shows, Does}

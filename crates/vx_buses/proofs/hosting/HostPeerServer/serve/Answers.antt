@@ -1,7 +1,7 @@
 use Rattle.std.proofs.Common.{refl, arith}
-use Rattle.vx_buses.specs.Passing.{passes_shown}
-use Rattle.vx_buses.specs.Standing.{gates_shown, firsts_shown}
-use Rattle.vx_buses.specs.Origins.{origins}
+use Rattle.vx_desks.specs.Passing.{passes_shown}
+use Rattle.vx_desks.specs.Standing.{gates_shown, firsts_shown}
+use Rattle.vx_desks.specs.Origins.{origins}
 use Rattle.vx_buses.proofs.Hosted.{ready-on, has-room}
 use Rattle.vx_buses.proofs.hosting.HostPeerServer.serve.Goals as goal
 

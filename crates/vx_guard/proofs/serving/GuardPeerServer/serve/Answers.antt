@@ -7,9 +7,9 @@ use Rattle.vx_session.specs.Counting.{IsSessionClear}
 use Rattle.vx_session.specs.Dialing.{dial_shown}
 use Rattle.vx_session.specs.Origin.{origin}
 use Rattle.vx_session.specs.Progress.{Clocked}
-use Rattle.vx_guard.specs.Linking.{GuardLinkDid}
+use Rattle.vx_desks.specs.RuledLinking.{GuardLinkDid}
 use Rattle.vx_guard.specs.Peers.{CanServe, pass_in}
-use Rattle.vx_guard.specs.Wholes.{GuardHolding}
+use Rattle.vx_desks.specs.Wholes.{GuardHolding}
 use Rattle.vx_guard.proofs.OnePeer.{link-ready, link-room, link-counts, link-cut}
 use Rattle.vx_guard.proofs.serving.GuardPeerServer.serve.Given as given
 use Rattle.vx_guard.proofs.serving.GuardPeerServer.serve.Goals as goal

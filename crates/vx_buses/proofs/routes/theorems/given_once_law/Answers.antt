@@ -1,8 +1,0 @@
-use Rattle.vx_buses.proofs.Once.{links-law, once-law}
-use Rattle.vx_buses.proofs.routes.theorems.given_once_law.Goals as goal
-
-pub returns-clause-links : goal.returns-clause-links
-returns-clause-links c = links-law c.numbers_given_once.ensures.link
-
-pub returns-clause-once : goal.returns-clause-once
-returns-clause-once c = once-law c.numbers_given_once.ensures.link c.numbers_given_once.ensures.links

@@ -1,0 +1,17 @@
+pub mod Laws
+pub mod Answered
+pub mod Asked
+pub mod Attended
+pub mod Counted
+pub mod Finishing
+pub mod FleetSessions
+pub mod Knowing
+pub mod Known
+pub mod Linked
+pub mod NoNames
+pub mod Once
+pub mod Progressing
+pub mod Renumbered
+pub mod Returning
+pub mod Ruling
+pub mod Served

@@ -1,0 +1,23 @@
+-- Values that came back with no group in between.
+use Rattle.std.proofs.Common.{◌≡◌, List, [], ◌∷◌, ◌++◌, sym, subst}
+use Rattle.std.specs.List.{All}
+use Rattle.std.proofs.lemmas.List.Elements.{All-head, All-tail}
+use Rattle.vx_desks.specs.Standing.{ComeBack}
+
+module _ {K G : Type 0} (stands : K → K → List G → Type 0) where
+  -- values round which no gate was started
+  pub back-same : (xs : List K) → All (λ x. stands x x []) xs → ComeBack stands xs xs
+  back-same [] all = tt
+  back-same (x ∷ xs) all = (All-head (λ x. stands x x []) x xs all, back-same xs (All-tail (λ x. stands x x []) x xs all))
+
+  -- one list of them, and another behind it
+  pub back-append : (xs xs' ys ys' : List K) → ComeBack stands xs xs' → ComeBack stands ys ys' → ComeBack stands (xs ++ ys) (xs' ++ ys')
+  back-append [] [] ys ys' front rest = rest
+  back-append (x ∷ xs) (x' ∷ xs') ys ys' front rest = (front.0, back-append xs xs' ys ys' front.1 rest)
+  back-append [] (x' ∷ xs') ys ys' front rest = absurd front
+  back-append (x ∷ xs) [] ys ys' front rest = absurd front
+
+  -- a list that ends with a value, and one that ends with what came back of it
+  pub back-last : (old old' new new' : List K) (first now : K) → old ≡ old' ++ first ∷ [] → new ≡ new' ++ now ∷ [] → ComeBack stands old' new' → stands first now [] → ComeBack stands old new
+  back-last old old' new new' first now is is' front back =
+      subst (λ (l : List K × List K). ComeBack stands l.0 l.1) (λ i. (sym is i, sym is' i)) (back-append old' new' (first ∷ []) (now ∷ []) front (back, tt))

@@ -1,0 +1,53 @@
+use Rattle.std.proofs.Common.{◌≡◌, ◌≤◌, Some, None, refl, sym, ap, ◌∙◌, subst, rules}
+use Rattle.std.proofs.lemmas.Option.{none-some}
+use Rattle.vx_text.specs.Ends.{sink_shown}
+use Rattle.vx_session.specs.Dialing.{dial_shown}
+use Rattle.vx_desks.proofs.Ruling.{Lent, seat_of, lent_of, state_of, link-so}
+use Rattle.vx_desks.proofs.ruled_links.guarded_link.Goals as goal
+
+pub unreachable-requires : goal.unreachable-requires
+unreachable-requires g c =
+    let run = link-so g.B.Bus g.C.Clock.tells _ _ c.guard_laws.ensures (record {
+      seat = seat_of g.C.Clock g.D.Dial;
+      lent = lent_of g.T.Turns.first;
+      of = state_of g.K.Sink;
+      note = λ s. s.note.ghost_name;
+      core = λ d. refl;
+      number = λ d. refl;
+      joins = λ d d' answer did. (did.0, λ i. (did.1 i, did.2 i, did.3 i, did.4 i));
+      asks = λ d d' xid call reply did. (did.0, λ i. (did.1 i, did.2 i, did.3 i, did.4 i));
+      leaves = λ d d' did. (did.0, λ i. (did.1 i, did.2 i, did.3 i, did.4 i));
+      ruled_joins = λ s s' answer did. (did.0, did.2);
+      ruled_asks = λ s s' xid call reply did. (did.0, did.2);
+      ruled_leaves = λ s s' did. (did.0, did.2);
+    }) g.L.Link _ c.serve_link-failed.result.0 c.args.pass _ _ _ refl refl c.order.ensures c.peer-peer.ensures c.serve_link-failed.ensures.did in
+    let held = ap (λ (l : Lent _). l.0) run.lends.0 in
+    let free = c.serve_link-failed.ensures.free in
+    none-some free.pass (sym (subst (λ held. held ≡ None) (search (rules, held)) c.in_default.is) ∙ free.has)
+
+pub returns : goal.returns
+returns g c =
+    let run = link-so g.B.Bus g.C.Clock.tells _ _ c.guard_laws.ensures (record {
+      seat = seat_of g.C.Clock g.D.Dial;
+      lent = lent_of g.T.Turns.first;
+      of = state_of g.K.Sink;
+      note = λ s. s.note.ghost_name;
+      core = λ d. refl;
+      number = λ d. refl;
+      joins = λ d d' answer did. (did.0, λ i. (did.1 i, did.2 i, did.3 i, did.4 i));
+      asks = λ d d' xid call reply did. (did.0, λ i. (did.1 i, did.2 i, did.3 i, did.4 i));
+      leaves = λ d d' did. (did.0, λ i. (did.1 i, did.2 i, did.3 i, did.4 i));
+      ruled_joins = λ s s' answer did. (did.0, did.2);
+      ruled_asks = λ s s' xid call reply did. (did.0, did.2);
+      ruled_leaves = λ s s' did. (did.0, did.2);
+    }) g.L.Link _ c.serve_link-failed.result.0 c.args.pass _ _ _ refl refl c.order.ensures c.peer-peer.ensures c.serve_link-failed.ensures.did in
+    let held = ap (λ (l : Lent _). l.0) run.lends.0 in
+    let clock = ap (λ (l : Lent _). l.1) run.lends.0 in
+    let dial = ap (λ (l : Lent _). l.2) run.lends.0 in
+    let note = run.lends.1 in
+    record {
+      did = run.did c.in-Some.pass _ _ _ _ _ (subst (λ o. o ≡ Some c.in-Some.pass) (search (rules, held)) c.in-Some.is) (ap g.C.Clock.told (search (rules, clock))) (search (rules, clock)) (ap (dial_shown g.D.Dial) (search (rules, dial)))
+          (ap (sink_shown g.K.Sink) (search (rules, note))) c.guarded_as-how.ensures;
+      told = subst (λ k. g.C.Clock.told c.args.kit.now.clock ≤ g.C.Clock.told k) (search (rules, clock)) run.later;
+      went = c.serve_link-failed.ensures.went;
+    }

@@ -1,5 +1,0 @@
-use Rattle.std.proofs.Common.{rules}
-use Rattle.vx_names.proofs.named.NamedDesk.ask.Goals as goal
-
-pub returns-in-CreateLink-clause-asks : goal.returns-in-CreateLink-clause-asks
-returns-in-CreateLink-clause-asks g c = search rules
