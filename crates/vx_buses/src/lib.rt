@@ -7,4 +7,7 @@ mod starting;
 
 pub use run::buses_run;
 pub use starting::start_buses;
-pub use vx_desks::{BusPass, Buses, BusesRefused, LinkServer, many_abort, many_link, many_session};
+pub use vx_desks::{
+    BusPass, Buses, BusesRefused, Count, Fleet, FleetWorker, Gates, GatesRefused, LinkServer,
+    Passes, fewer_law, four_law, global, local, many_abort, many_link, many_session,
+};
