@@ -1,6 +1,6 @@
 ghost use Rattle.std.specs.Prelude.{◌≡◌, ◌≤◌, ◌==◌, ◌++◌, nat_le, find, map, length, [], true};
 ghost use Rattle.std.specs.Option.{option_copied, option_map, option_and_then};
-ghost use Rattle.std.specs.List.{list_any, All};
+ghost use Rattle.std.specs.List.{All};
 ghost use Rattle.std.specs.VecDeque.{deque_capacity};
 ghost use Rattle.vx_rules.specs.declared.limits.TheConstants.{OUTBOX_MAX};
 ghost use Rattle.vx_rules.specs.SrqState.{slot_with, risen_slot, slot_taken, given_by, front_given, handles_of};
@@ -33,13 +33,6 @@ pub(crate) fn find_slot(slots: &[SlotRow], conn: u32) -> Option<&SlotRow>
     ensures { option_copied result ≡ find (λ r. r.conn == conn) slots.now }
 {
     slots.iter().find(|slot| slot.conn == conn)
-}
-
-/// Whether a slot is this connection's.
-pub(crate) fn has_slot(slots: &[SlotRow], conn: u32) -> bool
-    ensures { result ≡ list_any (λ r. r.conn == conn) slots.now }
-{
-    slots.iter().any(|slot| slot.conn == conn)
 }
 
 /// Gives the connection this channel, with an empty outbox.

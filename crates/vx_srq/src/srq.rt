@@ -8,7 +8,7 @@ ghost use Rattle.vx_srq.specs.Told.{channel_told, told_of};
 
 use crate::enables::{EnableRow, put};
 use crate::slots::{
-    ChannelRow, SlotRow, close_channel, drop_front, find_slot, front, has_slot, open_channel, rise,
+    ChannelRow, SlotRow, close_channel, drop_front, find_slot, front, open_channel, rise,
 };
 use std::alloc::Global;
 use std::collections::VecDeque;
@@ -17,15 +17,15 @@ use vx_calls::{CONNECTION_LAST, Handle, LINK_MAX, Taken};
 use vx_rules::OUTBOX_MAX;
 
 /// Memory ran out.
-#[derive(Clone, Copy, Debug, PartialEq, Eq)]
+#[derive(Clone, Copy)]
 pub struct NoMemory;
 
 /// No channel number is left: 2^31 - 1 was given out.
-#[derive(Clone, Copy, Debug, PartialEq, Eq)]
+#[derive(Clone, Copy)]
 pub struct NoNumber;
 
 /// An interrupt channel: its number, and the program and version that its calls have.
-#[derive(Clone, Copy, PartialEq, Eq)]
+#[derive(Clone, Copy)]
 pub struct Channel {
     pub chan: u32,
     pub prog: u32,
@@ -100,7 +100,10 @@ impl Srq {
     pub fn is_added(&self, conn: u32) -> bool
         ensures { result ≡ srq_state.is_added self.now conn }
     {
-        has_slot(&self.slots, conn)
+        match find_slot(&self.slots, conn) {
+            Some(_) => true,
+            None => false,
+        }
     }
 
     /// The connection goes, and with it its channel and the enables of its links.
