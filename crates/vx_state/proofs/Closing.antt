@@ -54,6 +54,16 @@ connected_sound t r now d e f sound =
     subst (λ xs. IsSound (record t { connections = xs; next_connection = t.next_connection + 1; srq_state = d })) (sym e)
     (subst (λ x. IsSound (record (with_connection t r) { srq_state = x })) (sym f) sound)
 
+pub connected_is : (t : Tables) (r : Role) (now : List Connection) (d : SrqState) → now ≡ (with_connection t r).connections → d ≡ (with_connection t r).srq_state
+    → record t { connections = now; next_connection = t.next_connection + 1; srq_state = d } ≡ with_connection t r
+connected_is t r now d e f =
+    ap (λ xs. let u : Tables = record t { connections = xs; next_connection = t.next_connection + 1; srq_state = d } in u) e
+    ∙ ap (λ x. let u : Tables = record (with_connection t r) { srq_state = x } in u) f
+
+-- the same connections and the same state of service requests
+pub kept_is : (t : Tables) (now : List Connection) (d : SrqState) → now ≡ t.connections → d ≡ t.srq_state → record t { connections = now; srq_state = d } ≡ t
+kept_is t now d e f = ap (λ xs. let u : Tables = record t { connections = xs; srq_state = d } in u) e ∙ ap (with_srq_state t) f
+
 -- where a connection goes, its arrival does too
 pub gone_sound : (t : Tables) (conn : ℕ) (cs : List Connection) (come : List ℕ) (links : Table) (locks : List Lock) (srq_state : SrqState) → IsSound t
     → come ≡ without_arrival t.arrivals conn

@@ -9,3 +9,4 @@ pub mod Room
 pub mod Granting
 pub mod Doable
 pub mod InLine
+pub mod Counting

@@ -1,6 +1,6 @@
 //! The tables of a gateway: its connections with their pending calls, its links, locks and interrupt channels. The gateway
 //! of one thread and the shared core both stand on them.
-ghost use Rattle.std.specs.Prelude.{◌≡◌, ◌↔◌, ◌<◌, ◌≤◌, ◌+◌, true, false, not, is_some, Some, None, IfOk, OnOk, OnErr, IsSome, IsErrOf, option_and_then};
+ghost use Rattle.std.specs.Prelude.{◌≡◌, ◌↔◌, ◌<◌, ◌≤◌, ◌+◌, ◌++◌, [], ◌∷◌, map, length, vec_capacity, true, false, not, is_some, Some, None, IfOk, OnOk, OnErr, IsSome, IsErrOf, option_and_then};
 ghost use Rattle.std.specs.Option.{option_map};
 ghost use Rattle.std.specs.List.{All};
 ghost use Rattle.vx_calls.specs.Call.{call_shown};
@@ -42,7 +42,7 @@ use vx_srq::Srq;
 pub struct NoMemory;
 
 /// Why a connection isn't taken.
-#[derive(Clone, Copy, PartialEq, Eq)]
+#[derive(Clone, Copy)]
 pub enum Connect {
     /// 64 connections of the role live, or number 2^31 - 1 was given out.
     Full,
@@ -114,18 +114,13 @@ impl Tables {
             return Err(Connect::Full);
         }
         let number = self.next;
-        let Ok(row) = new_row(alloc, number, role) else {
-            return Err(Connect::NoMemory);
-        };
-        let Ok(()) = self.rows.reserve(1) else {
-            return Err(Connect::NoMemory);
-        };
-        let Ok(()) = add_port(&mut self.srq, number, role) else {
-            return Err(Connect::NoMemory);
-        };
-        self.rows.push_reserved(row);
-        self.next += 1;
-        Ok(number)
+        match add_row(&mut self.rows, &mut self.srq, alloc, number, role) {
+            Ok(()) => {
+                self.next += 1;
+                Ok(number)
+            }
+            Err(_) => Err(Connect::NoMemory),
+        }
     }
 
     /// The role of a connection, where it lives.
@@ -326,6 +321,44 @@ impl Tables {
             Some(row) => row,
             None => unreachable!(),
         }
+    }
+}
+
+/// A connection more, without a call: its row, and its place among those that may have a channel. Where memory runs out nothing
+/// that is shown changes.
+fn add_row(
+    rows: &mut Vec<Row>,
+    srq: &mut Srq,
+    alloc: Global,
+    number: u32,
+    role: Role,
+) -> Result<(), NoMemory>
+    ensures rows { OnOk result (map connection_of rows.new.items ≡ map connection_of rows.old.items ++ record { number = number; role = role; pending = None } ∷ []) }
+    ensures ports { OnOk result (srq.new ≡ state.srq_state_with role number srq.old) }
+    ensures kept { OnErr result (rows.new.items ≡ rows.old.items) }
+    ensures err { OnErr result (srq.new ≡ srq.old) }
+{
+    match spare_row(rows, alloc, number, role) {
+        Ok(row) => match add_port(srq, number, role) {
+            Ok(()) => {
+                rows.push_reserved(row);
+                Ok(())
+            }
+            Err(_) => Err(NoMemory),
+        },
+        Err(_) => Err(NoMemory),
+    }
+}
+
+/// A row without a call, with room for one, and with a place behind these.
+fn spare_row(rows: &mut Vec<Row>, alloc: Global, number: u32, role: Role) -> Result<Row, NoMemory>
+    ensures row { IfOk result (λ row. connection_of row ≡ record { number = number; role = role; pending = None }) }
+    ensures items { rows.new.items ≡ rows.old.items }
+    ensures room { OnOk result (length rows.new.items < vec_capacity rows.new) }
+{
+    match rows.reserve(1) {
+        Ok(()) => new_row(alloc, number, role),
+        Err(_) => Err(NoMemory),
     }
 }
 

@@ -199,15 +199,18 @@ fn is_interface(on: Target) -> bool
 fn count_asking(rows: &[Row], conn: u32) -> usize
     ensures { result ≡ count_by (λ c. not (c.number == conn) && asks_channel c.pending) (map connection_of rows.now) }
 {
-    count_asking_rows(rows, conn)
+    let mut count: usize = 0;
+    for row in rows {
+        count += usize::from(is_asking(row, conn));
+    }
+    count
 }
 
-fn count_asking_rows(rows: &[Row], conn: u32) -> usize
-    ensures { result ≡ count_by (λ r. not (r.number == conn) && asks_channel (connection_of r).pending) rows.now }
+/// Whether a row is another connection's, and its call is a create_intr_chan.
+fn is_asking(row: &Row, conn: u32) -> bool
+    ensures { result ≡ (not (row.now.number == conn) && asks_channel (connection_of row.now).pending) }
 {
-    rows.iter()
-        .filter(|row| row.number != conn && asks_channel(row))
-        .count()
+    row.number != conn && asks_channel(row)
 }
 
 /// Whether a row's call is a create_intr_chan.

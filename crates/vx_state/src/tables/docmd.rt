@@ -11,7 +11,7 @@ use vx_links::Links;
 use vx_plan::Task;
 
 /// A command of device_docmd on the interface.
-#[derive(Clone, Copy, PartialEq, Eq)]
+#[derive(Clone, Copy)]
 pub(crate) enum Command {
     SendCommand,
     BusStatus,

@@ -86,16 +86,16 @@ pub(crate) fn words_of(call: &CallRef<'_>) -> Kept
     requires { may_wait (call_shown call.now) ≡ true }
     ensures { kept_call result (text_of (call_shown call.now)) (handle_of (call_shown call.now)) ≡ call_shown call.now }
 {
-    match call {
+    match *call {
         CallRef::CreateLink {
             client,
             lock,
             lock_timeout,
             ..
         } => Kept::CreateLink {
-            client: *client,
-            lock: *lock,
-            lock_timeout: *lock_timeout,
+            client,
+            lock,
+            lock_timeout,
         },
         CallRef::Write {
             lid,
@@ -104,10 +104,10 @@ pub(crate) fn words_of(call: &CallRef<'_>) -> Kept
             flags,
             ..
         } => Kept::Write {
-            lid: *lid,
-            io_timeout: *io_timeout,
-            lock_timeout: *lock_timeout,
-            flags: *flags,
+            lid,
+            io_timeout,
+            lock_timeout,
+            flags,
         },
         CallRef::Read {
             lid,
@@ -117,18 +117,18 @@ pub(crate) fn words_of(call: &CallRef<'_>) -> Kept
             flags,
             term,
         } => Kept::Read {
-            lid: *lid,
-            request: *request,
-            io_timeout: *io_timeout,
-            lock_timeout: *lock_timeout,
-            flags: *flags,
-            term: *term,
+            lid,
+            request,
+            io_timeout,
+            lock_timeout,
+            flags,
+            term,
         },
-        CallRef::ReadStb(generic) => Kept::ReadStb(*generic),
-        CallRef::Trigger(generic) => Kept::Trigger(*generic),
-        CallRef::Clear(generic) => Kept::Clear(*generic),
-        CallRef::Remote(generic) => Kept::Remote(*generic),
-        CallRef::Local(generic) => Kept::Local(*generic),
+        CallRef::ReadStb(generic) => Kept::ReadStb(generic),
+        CallRef::Trigger(generic) => Kept::Trigger(generic),
+        CallRef::Clear(generic) => Kept::Clear(generic),
+        CallRef::Remote(generic) => Kept::Remote(generic),
+        CallRef::Local(generic) => Kept::Local(generic),
         _ => other_words_of(call),
     }
 }
@@ -139,21 +139,18 @@ fn other_words_of(call: &CallRef<'_>) -> Kept
     requires other { is_table_call (call_shown call.now) ≡ true }
     ensures { kept_call result (text_of (call_shown call.now)) (handle_of (call_shown call.now)) ≡ call_shown call.now }
 {
-    match call {
+    match *call {
         CallRef::Lock {
             lid,
             flags,
             lock_timeout,
         } => Kept::Lock {
-            lid: *lid,
-            flags: *flags,
-            lock_timeout: *lock_timeout,
+            lid,
+            flags,
+            lock_timeout,
         },
-        CallRef::Unlock { lid } => Kept::Unlock { lid: *lid },
-        CallRef::EnableSrq { lid, enable, .. } => Kept::EnableSrq {
-            lid: *lid,
-            enable: *enable,
-        },
+        CallRef::Unlock { lid } => Kept::Unlock { lid },
+        CallRef::EnableSrq { lid, enable, .. } => Kept::EnableSrq { lid, enable },
         CallRef::Docmd {
             lid,
             flags,
@@ -164,15 +161,15 @@ fn other_words_of(call: &CallRef<'_>) -> Kept
             size,
             ..
         } => Kept::Docmd {
-            lid: *lid,
-            flags: *flags,
-            io_timeout: *io_timeout,
-            lock_timeout: *lock_timeout,
-            cmd: *cmd,
-            big: *big,
-            size: *size,
+            lid,
+            flags,
+            io_timeout,
+            lock_timeout,
+            cmd,
+            big,
+            size,
         },
-        CallRef::DestroyLink { lid } => Kept::DestroyLink { lid: *lid },
+        CallRef::DestroyLink { lid } => Kept::DestroyLink { lid },
         CallRef::CreateIntr {
             host,
             port,
@@ -180,11 +177,11 @@ fn other_words_of(call: &CallRef<'_>) -> Kept
             vers,
             family,
         } => Kept::CreateIntr {
-            host: *host,
-            port: *port,
-            prog: *prog,
-            vers: *vers,
-            family: *family,
+            host,
+            port,
+            prog,
+            vers,
+            family,
         },
         CallRef::DestroyIntr => Kept::DestroyIntr,
         _ => unreachable!(),
@@ -195,10 +192,10 @@ fn other_words_of(call: &CallRef<'_>) -> Kept
 pub(crate) fn text_of<'a>(call: &CallRef<'a>) -> &'a [u8]
     ensures { result.now ≡ text_of (call_shown call.now) }
 {
-    match call {
-        CallRef::CreateLink { device, .. } => *device,
-        CallRef::Write { bytes, .. } => *bytes,
-        CallRef::Docmd { bytes, .. } => *bytes,
+    match *call {
+        CallRef::CreateLink { device, .. } => device,
+        CallRef::Write { bytes, .. } => bytes,
+        CallRef::Docmd { bytes, .. } => bytes,
         _ => &[],
     }
 }

@@ -32,7 +32,7 @@ use vx_plan::Task;
 const NOBODY: u8 = ADDRESS_MAX + 1;
 
 /// What keeps a call off its target.
-#[derive(Clone, Copy, PartialEq, Eq)]
+#[derive(Clone, Copy)]
 pub enum Bar {
     /// The lock of this other link.
     HeldBy { link: u32 },
@@ -41,7 +41,7 @@ pub enum Bar {
 }
 
 /// The first lines refuse a call, let it wait for what keeps it off, or let it pass.
-#[derive(Clone, Copy, PartialEq, Eq)]
+#[derive(Clone, Copy)]
 pub enum Admission {
     Refused(ErrorCode),
     Waiting(Bar),
@@ -49,7 +49,7 @@ pub enum Admission {
 }
 
 /// What a call is under locks with: a link, 0 for one that isn't made yet, and what it is to.
-#[derive(Clone, Copy, PartialEq, Eq)]
+#[derive(Clone, Copy)]
 pub struct Request {
     pub link: u32,
     pub target: Target,
@@ -171,11 +171,16 @@ impl Tables {
     fn first_in_line(&self, conn: u32, busy: Option<u32>, now: u64, target: Target) -> Option<u32>
         ensures { result ≡ lines.first_of (lines.ahead self.now busy now conn target) }
     {
-        self.arrivals
-            .iter()
-            .take_while(|other| **other != conn)
-            .find(|other| self.is_in_line(**other, busy, now, target))
-            .copied()
+        let arrivals = self.arrivals.as_slice();
+        for other in arrivals {
+            if *other == conn {
+                return None;
+            }
+            if self.is_in_line(*other, busy, now, target) {
+                return Some(*other);
+            }
+        }
+        None
     }
 
     /// Whether the call of a connection stands in line for what conflicts with the target.

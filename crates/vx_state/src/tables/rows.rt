@@ -55,26 +55,11 @@ pub(crate) fn is_same_role(a: Role, b: Role) -> bool
 pub(crate) fn count_role(rows: &[Row], role: Role) -> usize
     ensures { result ≡ count_by (λ c. same_role c.role role) (map connection_of rows.now) }
 {
-    count_rows(rows, role)
-}
-
-fn count_rows(rows: &[Row], role: Role) -> usize
-    ensures { result ≡ count_by (λ r. same_role r.role role) rows.now }
-{
-    rows.iter()
-        .filter(|row| is_same_role(row.role, role))
-        .count()
-}
-
-/// The row with this number.
-fn row_at(rows: &[Row], conn: u32) -> Option<&Row>
-    requires rising { AllPairs (λ a b. a.number < b.number) rows.now }
-    ensures { option_copied result ≡ find (λ r. r.number == conn) rows.now }
-{
-    match place_of(rows, conn) {
-        Some(place) => Some(&rows[place]),
-        None => None,
+    let mut count: usize = 0;
+    for row in rows {
+        count += usize::from(is_same_role(row.role, role));
     }
+    count
 }
 
 /// The row of the connection of this number.
@@ -82,7 +67,10 @@ pub(crate) fn find_row(rows: &[Row], conn: u32) -> Option<&Row>
     requires rising { AllPairs (λ a b. a.number < b.number) rows.now }
     ensures { option_map connection_of (option_copied result) ≡ find (λ c. c.number == conn) (map connection_of rows.now) }
 {
-    row_at(rows, conn)
+    match place_of(rows, conn) {
+        Some(place) => Some(&rows[place]),
+        None => None,
+    }
 }
 
 /// The connection's call that waits for its answer is now this one.

@@ -1,21 +1,32 @@
-use Rattle.std.proofs.Common.{◌==◌, not, filter, ap, ◌∙◌, rules, tests}
-use Rattle.std.specs.List.{find}
+use Rattle.std.proofs.Common.{refl, sym, ap, ◌∙◌}
 use Rattle.vx_rules.specs.State.{Tables}
-use Rattle.std.proofs.lemmas.Iterator.{YieldsList-from_slice}
-use Rattle.std.proofs.lemmas.Iterator.Search.{find_from_yields_List, YieldsList-from_take_while}
-use Rattle.vx_rules.specs.Lines.{is_in_line, came_before, first_of}
-use Rattle.vx_state.proofs.InLine.{find-filter, front-before}
+use Rattle.vx_rules.specs.Lines.{is_in_line}
+use Rattle.vx_state.proofs.InLine.{first_passing, goes_on, own_found, one_found, none_found}
 use Rattle.vx_state.proofs.tables.Tables.first_in_line.Goals as goal
+
+pub loop-other-init : goal.loop-other-init
+loop-other-init c = record { rest = refl }
+
+pub loop-other-preserved : goal.loop-other-preserved
+loop-other-preserved c =
+    goes_on (is_in_line c.args.self.now c.args.busy c.args.now c.args.target) c.args.conn c.as_slice-arrivals.result.now c.loop-other.other-index c.loop-other-test.true
+    c.loop-other.invariant c.if-other-conn.false (sym c.is_in_line.ensures ∙ c.if-is_in_line.false)
+
+pub returns-then-other-conn : goal.returns-then-other-conn
+returns-then-other-conn c =
+    let p = is_in_line c.args.self.now c.args.busy c.args.now c.args.target in
+    own_found p c.args.conn c.as_slice-arrivals.result.now c.loop-other.other-index c.loop-other-test.true c.loop-other.invariant c.if-other-conn.true
+    ∙ ap (first_passing p c.args.conn) (c.as_slice-arrivals.ensures.value ∙ ap (λ (t : Tables). t.arrivals) c.self.view_is)
+
+pub returns-then-is_in_line : goal.returns-then-is_in_line
+returns-then-is_in_line c =
+    let p = is_in_line c.args.self.now c.args.busy c.args.now c.args.target in
+    one_found p c.args.conn c.as_slice-arrivals.result.now c.loop-other.other-index c.loop-other-test.true c.loop-other.invariant c.if-other-conn.false
+    (sym c.is_in_line.ensures ∙ c.if-is_in_line.true)
+    ∙ ap (first_passing p c.args.conn) (c.as_slice-arrivals.ensures.value ∙ ap (λ (t : Tables). t.arrivals) c.self.view_is)
 
 pub returns : goal.returns
 returns c =
-    let t = c.args.self.now in
-    let stands = is_in_line t c.args.busy c.args.now c.args.target in
-    c.copied.ensures
-    ∙ find_from_yields_List stands _ _ c.find.result c.find.ensures.ran
-    (YieldsList-from_take_while _ (λ n. not (n == c.args.conn)) (YieldsList-from_slice c.deref.result.now (cc)) c.take_while.ensures.closure c.take_while.ensures.done
-    (λ x b q k. search (rules, tests)))
-    (λ x b q k. search (rules, tests))
-    ∙ ap (find stands) (front-before c.args.conn c.deref.result.now)
-    ∙ find-filter stands (came_before c.deref.result.now c.args.conn)
-    ∙ ap (λ ns. first_of (filter stands (came_before ns c.args.conn))) (c.deref.ensures.value ∙ ap (λ (x : Tables). x.arrivals) c.self.view_is)
+    let p = is_in_line c.args.self.now c.args.busy c.args.now c.args.target in
+    none_found p c.args.conn c.as_slice-arrivals.result.now c.loop-other.other-index c.loop-other-test.false c.loop-other.invariant
+    ∙ ap (first_passing p c.args.conn) (c.as_slice-arrivals.ensures.value ∙ ap (λ (t : Tables). t.arrivals) c.self.view_is)
