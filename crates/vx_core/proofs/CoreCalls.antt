@@ -1,5 +1,5 @@
 -- The calls of a core that make no transfer: each is an event that is allowed, behind which the core keeps what it keeps.
-use Rattle.std.proofs.Common.{◌≡◌, ◌≤◌, ◌==◌, ℕ, ◌⊎◌, inl, inr, Bool, true, false, cond, List, [], Option, Some, None, refl, sym, ap, ◌∙◌, subst, arith}
+use Rattle.std.proofs.Common.{◌≡◌, ◌≤◌, ◌==◌, ℕ, ◌⊎◌, inl, inr, Bool, true, false, cond, List, [], Option, Some, None, Result, Ok, Err, refl, sym, ap, ◌∙◌, subst, arith}
 use Rattle.std.specs.Prelude.{max, is_some, is_none}
 use Rattle.std.proofs.lemmas.Bool.{and_parts, cases_Bool}
 use Rattle.std.proofs.lemmas.List.Elements.{All-nil}
@@ -306,6 +306,16 @@ disconnects {B} means k mid new old conn view keeps lives is cut gone = subst Se
         led means k (Down conn) new _
         (gone ∙ ap (λ (x : KernelState B). let after : KernelState B = record (left x conn) { tables = without_connection x.tables conn } in after) is)
         (downs means k mid.bus conn keeps cut lives)
+
+-- a result isn't both a value and a refusal
+pub never_both : {T E : Type 0} (r : Result T E) (v : T) (e : E) → r ≡ Ok v → r ≡ Err e → ⊥
+never_both r v e is refused = cc
+
+-- a connection that has no call has none once a moment was told
+pub idle_still : {B : Type 0} (means : B → Means) (k mid s : KernelState B) (old : CoreState B) (conn now : ℕ) → core_of means k ≡ old
+    → is_idle old.interleaved.state.tables conn ≡ true → mid ≡ record k { bus = mid.bus; moment = max k.moment now } → s ≡ mid → is_idle s.tables conn ≡ true
+idle_still {B} means k mid s old conn now view idle kept seen =
+    ap (λ (x : KernelState B). is_idle x.tables conn) (seen ∙ kept) ∙ ap (λ (o : CoreState B). is_idle o.interleaved.state.tables conn) view ∙ idle
 
 -- a moment is told, and then a call arrives in the tables
 pub arrives-so : {B : Type 0} (means : B → Means) (k mid s : KernelState B) (old : CoreState B) (conn : ℕ) (asked : Call) (now : ℕ) (t : Tables) → core_of means k ≡ old

@@ -1,4 +1,5 @@
-use Rattle.std.proofs.Common.{◌≡◌, ℕ, List, ◌++◌, length, drop, Option, Some, sym, ◌∙◌, subst}
+use Rattle.std.proofs.Common.{◌≡◌, ℕ, List, ◌++◌, length, drop, Option, Some, [], sym, ap, ◌∙◌, subst}
+use Rattle.std.specs.Prelude.{is_some}
 use Rattle.vx_ctrl.specs.Goes.{HoldsBytes}
 use Rattle.vx_core.specs.declared.running.Running.{Running}
 use Rattle.vx_core.specs.Shown.{running_of}
@@ -6,6 +7,17 @@ use Rattle.vx_core.specs.KernelState.{KernelState}
 use Rattle.vx_core.specs.Turning.{WentOn}
 use Rattle.vx_core.proofs.Turning.{kernel_of, may-go, begun-with, few-with, turn-own, few-made, went-on, own-running, written}
 use Rattle.vx_core.proofs.kernel.Kernel.move_on.Goals as goal
+
+pub bytes-requires : goal.bytes-requires
+bytes-requires g c =
+    let m = may-go g.B.Bus.means _ c.args.self.now c.args.conn c.in-Some.running c.passed_calls.ensures.passed c.self.view_is c.requires c.in-Some.is in
+    ap is_some m.pending
+
+pub go-went-requires-clause-cut : goal.go-went-requires-clause-cut
+go-went-requires-clause-cut g c = subst (λ (k : KernelState g.row.B.Denot). (g.B.Bus.means k.bus).moves ≡ []) (sym c.self.view_is) c.requires.cut
+
+pub go-went-requires-clause-asks : goal.go-went-requires-clause-asks
+go-went-requires-clause-asks g c = subst (λ (k : KernelState g.row.B.Denot). (g.B.Bus.means k.bus).asks ≡ 0) (sym c.self.view_is) c.requires.asks
 
 pub go-went-requires-clause-plain : goal.go-went-requires-clause-plain
 go-went-requires-clause-plain g c =
