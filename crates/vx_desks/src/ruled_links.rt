@@ -39,7 +39,7 @@ pub struct Kit<C: Clock + Drop, P: Pause + Drop, D: Dial + Drop> {
 }
 
 /// How a guarded link's work ended.
-#[derive(Clone, Copy, PartialEq, Eq)]
+#[derive(Clone, Copy)]
 pub enum Guarded {
     /// Its connection had a guarded session, which ended so.
     Ended(GuardEnd),

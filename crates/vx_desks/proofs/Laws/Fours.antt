@@ -1,5 +1,5 @@
 -- Four of a kind: one that is put in its place, and one that is brought to the first place and back.
-use Rattle.std.proofs.Common.{◌≡◌, ◌≢◌, ◌≤◌, ℕ, zero, suc, refl, ap, arith}
+use Rattle.std.proofs.Common.{◌≡◌, ◌≢◌, ◌≤◌, ℕ, zero, suc, refl, ap, ◌∙◌, arith}
 use Rattle.vx_desks.specs.Four.{Four, at, put, swapped, Each}
 use Rattle.vx_gate.specs.PassView.{PassView}
 use Rattle.vx_group.specs.Groups.{Group}
@@ -19,6 +19,14 @@ module _ {A : Type 0} where
   swapped-back (suc zero) f x = refl
   swapped-back (suc (suc zero)) f x = refl
   swapped-back (suc (suc (suc n))) f x = refl
+
+  -- so the one that was brought there is the one of that number
+  pub brought : (b : ℕ) (f first : Four A) → first ≡ swapped b f → first.zero_ ≡ at b f
+  brought b f first is = ap (λ (h : Four A). h.zero_) is ∙ swapped-first b f
+
+  -- and all are as they were but that one, as it is behind
+  pub put-back : (b : ℕ) (f first last : Four A) (x : A) → first ≡ swapped b f → last ≡ swapped b (record { zero_ = x; one = first.one; two = first.two; three = first.three }) → last ≡ put b x f
+  put-back b f first last x is back = back ∙ ap (λ (h : Four A). swapped b (record { zero_ = x; one = h.one; two = h.two; three = h.three })) is ∙ swapped-back b f x
 
   -- the one that was put in its place
   pub at-put : (b : ℕ) (x : A) (f : Four A) → at b (put b x f) ≡ x
