@@ -1,4 +1,5 @@
 mod Bursting
+mod Asking
 mod Stopping
 mod Resting
 mod Wires

@@ -39,3 +39,6 @@ returns-in-Err-docmd-2-clause-unrested g c = (
   asked-behind (words_of g.L.Link g.L.Reach.refused g.L.Reach.tries) c.args.self.now c.docmd-2.new.self c.docmd-3.new.self _ _ _
       (rest-behind (words_of g.L.Link g.L.Reach.refused g.L.Reach.tries) c.args.self.now c.docmd.new.self c.docmd-2.new.self c.docmd.ensures.rest c.docmd-2.ensures.rest) c.in-Err-docmd-2.ensures.called,
 )
+
+pub returns-in-Err-clause-unrested : goal.returns-in-Err-clause-unrested
+returns-in-Err-clause-unrested g c = (c.docmd.new.self.client, c.in-Err.ensures.called)
