@@ -1,6 +1,9 @@
-use Rattle.std.proofs.Common.{max}
+use Rattle.std.proofs.Common.{refl, max}
 use Rattle.vx_session.proofs.Adding.{poll-becomes}
 use Rattle.vx_session.proofs.acts.AgainActCore.run.Goals as goal
+
+pub returns-clause-does : goal.returns-clause-does
+returns-clause-does g c = (c.again.ensures.polled, c.again.ensures.len, refl)
 
 pub returns-clause-stands : goal.returns-clause-stands
 returns-clause-stands g c =
