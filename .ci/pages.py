@@ -18,9 +18,9 @@ PROVED_HEAD = """# What is proved
 
 Each public function with its clauses and what stands above it in the code, a heading a crate. A script makes this page; the words
 are those of the crates. A function without a clause is proved to be safe and to end, as every other is; one that takes a `Wait`
-owes no end. The crates of tests, `vx_test_bytes`, `vx_test_tables`, `vx_test_core`, `vx_test_play` and
-`vx_test_server`, offer nothing to other crates and have no heading here. Neither have `vx_lemmas` and `vx_run`, which have no
-function: the one has lemmas that proofs of other crates cite, the other the definitions of a script's run that [MODEL.md](MODEL.md) lists. [CLAIMS.md](CLAIMS.md) says what the programs' own calls promise, and [MODEL.md](MODEL.md) what the clauses mean.
+owes no end. The crates of tests, `vx_test_low`, `vx_test_core`, `vx_test_play` and `vx_test_server`, offer nothing to other crates
+and have no heading here. Neither have `vx_lemmas` and `vx_run`, which have no function: the one has lemmas that proofs of other crates
+cite, the other the definitions of a script's run that [MODEL.md](MODEL.md) lists. [CLAIMS.md](CLAIMS.md) says what the programs' own calls promise, and [MODEL.md](MODEL.md) what the clauses mean.
 """
 
 FUNCTION = re.compile(r"^(\s*)(?:pub )?(?:const )?(?:unsafe )?fn (\w+)")
