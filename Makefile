@@ -94,8 +94,8 @@ buses:
 guard:
 	cd crates/vxguard && rm -f out/vxguard && { rt run < /dev/null > /dev/null || test -x out/vxguard; }
 
-# a program that takes turns at a gate on some threads, serves one link or two at once by four buses, or has a client and a gateway
-# in it
+# a program that takes turns at a gate on some threads, serves one link or two at once by four buses, has a client and a gateway in it,
+# or plays the rows of the player and of the checker
 measure:
 	cd crates/vx_measure && rt run -- gate 1 1 < /dev/null > /dev/null
 

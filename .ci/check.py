@@ -5,7 +5,7 @@ them legal, and none of them where the error of one reply is another. A script t
 those of which it is stored that they are refused. Where memory can't hold a trace the checker must say so. What differs, and at last
 'N passed, M failed', goes to standard error; the status is 1 where something differs.
 
-The traces of the crates' data are judged in the program `vx_rows` too, without a reply of another error; here the two programs hand
+The traces of the crates' data are judged in `vx_measure` too, without a reply of another error; here the two programs hand
 them on.
 
 Whole messages are composed from their words, by RFC 5531 and VXI-11.

@@ -13,6 +13,8 @@ pub(crate) enum Status {
     CallFailed,
     /// 5: there is no memory or no thread, no link came, or one ended otherwise than by its own end.
     Refused,
+    /// 6: a row can't be read or told of, or there is no memory to play it.
+    NoRow,
 }
 
 impl Status {
@@ -24,6 +26,7 @@ impl Status {
             Status::NoPort => 3,
             Status::CallFailed => 4,
             Status::Refused => 5,
+            Status::NoRow => 6,
         }
     }
 }

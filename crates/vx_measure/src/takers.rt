@@ -4,6 +4,7 @@ ghost use Rattle.std.specs.Arc.{arc_value};
 ghost use Rattle.vx_gate.specs.Gates.{gate_of};
 
 use crate::status::Status;
+use crate::words::Turns;
 use std::alloc::{AllocError, Global};
 use std::sync::{Arc, Wait};
 use std::thread::{self, JoinHandle, Threads};
@@ -119,8 +120,7 @@ fn take_turns<R: Threads + Wait + Copy + Send + 'static>(
 /// Prints how many turns so many threads took, each so many.
 pub(crate) fn tell_turns<R: Threads + Wait + Print + AllocGlobal + Copy + Send + 'static>(
     rt: R,
-    threads: u32,
-    turns: u64,
+    Turns { threads, turns }: Turns,
 ) -> Status {
     if threads > MOST_THREADS {
         return Status::Usage;

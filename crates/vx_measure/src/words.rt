@@ -11,20 +11,31 @@ pub(crate) enum Links {
     Two,
 }
 
+/// So many threads, which take so many turns each.
+#[derive(Clone, Copy)]
+pub(crate) struct Turns {
+    pub(crate) threads: u32,
+    pub(crate) turns: u64,
+}
+
 /// What the words ask for.
 #[derive(Clone, Copy)]
 pub(crate) enum Asked {
-    /// So many threads, which take so many turns each.
-    Gate { threads: u32, turns: u64 },
+    /// Turns at a gate.
+    Gate(Turns),
     /// So many links at this port.
     Buses { port: u16, links: Links },
     /// A client over a gateway of its own.
     Loop,
+    /// The rows of the folder.
+    Rows,
+    /// The rows, and then turns at a gate.
+    RowsAndGate(Turns),
 }
 
 /// The numbers of a gate's run.
-fn gate_of(threads: &str, turns: &str) -> Option<Asked> {
-    Some(Asked::Gate {
+fn turns_of(threads: &str, turns: &str) -> Option<Turns> {
+    Some(Turns {
         threads: threads.parse().ok()?,
         turns: turns.parse().ok()?,
     })
@@ -47,8 +58,14 @@ fn buses_of(port: &str, links: &str) -> Option<Asked> {
 fn read_words(words: &[String]) -> Option<Asked> {
     match words {
         [work] if work.as_str() == "loop" => Some(Asked::Loop),
-        [work, threads, turns] if work.as_str() == "gate" => gate_of(threads, turns),
+        [work, threads, turns] if work.as_str() == "gate" => {
+            turns_of(threads, turns).map(Asked::Gate)
+        }
         [work, port, links] if work.as_str() == "buses" => buses_of(port, links),
+        [work] if work.as_str() == "rows" => Some(Asked::Rows),
+        [work, other, threads, turns] if work.as_str() == "rows" && other.as_str() == "gate" => {
+            turns_of(threads, turns).map(Asked::RowsAndGate)
+        }
         _ => None,
     }
 }

@@ -1,4 +1,4 @@
-//! Steps of the gateway of one thread. What it takes, and what it refuses, are rows of the program `vx_rows`: traces, which the checker
+//! Steps of the gateway of one thread. What it takes, and what it refuses, are rows of `vx_measure`: traces, which the checker
 //! judges by its steps.
 
 use std::alloc::Global;

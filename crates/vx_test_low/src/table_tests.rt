@@ -36,7 +36,7 @@ const REPLY: &str = r#"{"rules":[{"in":"a","out":""#;
 
 const END: &str = r#""}]}"#;
 
-// Texts, and why each describes no instrument. Others are rows of the program `vx_rows`.
+// Texts, and why each describes no instrument. Others are rows of `vx_measure`.
 static TEXTS: [(Text, Option<TableErr>); 12] = [
     // Each value that isn't a table, or has a bad rule behind good ones; and one that makes an instrument.
     (("[]", "", 0, ""), Some(TableErr::NotObject)),

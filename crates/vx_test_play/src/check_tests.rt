@@ -1,4 +1,4 @@
-//! Checks of traces whose words, source or sink fail. What is found of worked traces are rows of the program `vx_rows`.
+//! Checks of traces whose words, source or sink fail. What is found of worked traces are rows of `vx_measure`.
 
 use crate::text_tools::words_of;
 use std::alloc::{AllocError, Global};

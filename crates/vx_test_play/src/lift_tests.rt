@@ -1,4 +1,4 @@
-//! Lifts whose sink fails, and lifts of the longest lines. Other scripts are rows of the program `vx_rows`.
+//! Lifts whose sink fails, and lifts of the longest lines. Other scripts are rows of `vx_measure`.
 
 use crate::text_tools::{Piece, text_of};
 use std::alloc::{AllocError, Global};

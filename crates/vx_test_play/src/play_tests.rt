@@ -1,5 +1,5 @@
-//! Plays whose words, source or sink fail, and scripts that are too long for a file. Other scripts are rows of the program
-//! `vx_rows`. Records are composed by hand from their words; the record's mark stands first.
+//! Plays whose words, source or sink fail, and scripts that are too long for a file. Other scripts are rows of `vx_measure`.
+//! Records are composed by hand from their words; the record's mark stands first.
 
 use crate::text_tools::{Piece, text_of, words_of};
 use arrayvec::ArrayString;

@@ -1,4 +1,4 @@
-//! What lines of a script of version 2 say. Lines of version 1, and scripts, are rows of the program `vx_rows`.
+//! What lines of a script of version 2 say. Lines of version 1, and scripts, are rows of `vx_measure`.
 
 use vx_calls::Role;
 use vx_script::*;

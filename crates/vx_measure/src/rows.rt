@@ -1,5 +1,5 @@
-//! Plays the scripts of the folder that it runs in, judges the traces there, and tells of which of them is printed otherwise than is
-//! written down.
+//! The rows of the player and of the checker: the scripts of the folder that the program runs in are played, the traces there are judged,
+//! and it is told of which of them is printed otherwise than is written down.
 //!
 //! A file `NAME.vxs` is a script, and a file `NAME.lift` one that is lifted to version 2; a file `NAME.each` holds a script of one
 //! line in each of its lines; a file `NAME.args` has the words of a call without a script, one a line. Beside it the file `NAME.out`
@@ -11,10 +11,9 @@
 //!
 //! A file `NAME.trace` is a trace, which is judged twice: read whole, and read in pieces of a few bytes. Beside it the file
 //! `NAME.verdict` has what the check of it must print, and behind that such a last line.
-#![tactic(auto)]
-
 ghost use Rattle.std.specs.Prelude.{◌<◌};
 
+use crate::status::Status;
 use arrayvec::ArrayString;
 use std::alloc::{AllocError, AllocFailed, Global};
 use std::fs::{self, read_dir};
@@ -321,10 +320,11 @@ fn files_of<R: Files + AllocGlobal + Clone + Drop>(rt: &R) -> io::Result<Vec<Str
     Ok(files)
 }
 
-fn main(rt: HostRuntime) -> io::Result<()> {
+/// Takes all files of the folder, and prints how many rows there are, and how many of them differ.
+fn take_all<R: Files + Print + AllocGlobal + Clone + Drop>(rt: &R) -> io::Result<()> {
     let mut tally = Tally::default();
-    for file in &files_of(&rt)? {
-        take_file(&rt, file, &mut tally)?;
+    for file in &files_of(rt)? {
+        take_file(rt, file, &mut tally)?;
     }
     let Tally {
         rows,
@@ -332,4 +332,12 @@ fn main(rt: HostRuntime) -> io::Result<()> {
         legal,
     } = tally;
     println!(rt; "{rows} rows, {legal} legal, {differ} differ")
+}
+
+/// Plays and judges all rows of the folder, and tells of them.
+pub(crate) fn tell_rows<R: Files + Print + AllocGlobal + Clone + Drop>(rt: &R) -> Status {
+    match take_all(rt) {
+        Ok(()) => Status::Done,
+        Err(_) => Status::NoRow,
+    }
 }
