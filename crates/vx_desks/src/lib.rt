@@ -45,5 +45,5 @@ pub type BusPass<B> = Passes<Core<B>>;
 pub type BusesRefused<B> = GatesRefused<Core<B>>;
 
 /// There was no memory for a table of names, or for the room of a guarded session.
-#[derive(Clone, Copy)]
+#[derive(Clone, Copy, Debug, PartialEq, Eq)]
 pub struct NoMemory;

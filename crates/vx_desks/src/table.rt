@@ -16,7 +16,7 @@ use vx_calls::DEVICE_MAX;
 pub const NAMES_MAX: usize = 64;
 
 /// Why a name isn't added.
-#[derive(Clone, Copy, PartialEq, Eq)]
+#[derive(Clone, Copy, Debug, PartialEq, Eq)]
 pub enum NameRefused {
     /// It, or the device text that it is to stand for, has more than [`DEVICE_MAX`] bytes.
     TooLong,

@@ -17,11 +17,11 @@ use vx_calls::{CONNECTION_LAST, Handle, LINK_MAX, Taken};
 use vx_rules::OUTBOX_MAX;
 
 /// Memory ran out.
-#[derive(Clone, Copy)]
+#[derive(Clone, Copy, Debug, PartialEq, Eq)]
 pub struct NoMemory;
 
 /// No channel number is left: 2^31 - 1 was given out.
-#[derive(Clone, Copy)]
+#[derive(Clone, Copy, Debug, PartialEq, Eq)]
 pub struct NoNumber;
 
 /// An interrupt channel: its number, and the program and version that its calls have.

@@ -42,7 +42,7 @@ use vx_srq::Srq;
 pub struct NoMemory;
 
 /// Why a connection isn't taken.
-#[derive(Clone, Copy)]
+#[derive(Clone, Copy, PartialEq, Eq)]
 pub enum Connect {
     /// 64 connections of the role live, or number 2^31 - 1 was given out.
     Full,
