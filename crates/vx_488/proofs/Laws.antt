@@ -1,6 +1,8 @@
--- Laws of lists of listeners and of transfers, proved.
+-- Laws of lists of listeners, of transfers and of bursts, proved: the last are what whoever writes a bus's bursts cites.
 pub mod AddressCommands
 pub mod Appends
+pub mod Puts
+pub mod Gets
 use Rattle.std.proofs.Common.{◌≡◌, true, [], ◌∷◌, not, cond, ap, refl, ◌++◌, append_assoc, sym, ◌∙◌}
 use Rattle.std.proofs.lemmas.Bool.{cond-true}
 use Rattle.vx_488.specs.declared.transfers.Addr.{Addr}

@@ -5,3 +5,8 @@ pub mod Command
 pub mod Wire
 pub mod Heard
 pub mod Laws
+pub mod Means
+pub mod Steps
+pub mod Walks
+pub mod Bursts
+pub use Rattle.vx_io_traits.specs.Faults

@@ -1,17 +1,17 @@
 -- A bus over memory: the bytes that it gives, and which of its moving calls are held or fail.
 use Rattle.std.specs.Prelude.{◌≡◌, ℕ, ◌+◌, Bool, if◌then◌else◌, List, [], ◌∷◌, ◌++◌, drop, Some}
-use Rattle.vx_bus_traits.specs.Faults.{one_more, fails_next}
+use Rattle.vx_488.specs.Faults.{one_more, fails_next}
 use Rattle.vx_488.specs.declared.transfers.Transfer.{Transfer}
 use Rattle.vx_488.specs.declared.transfers.Transfer.TheVariants.{Cmd, Put, Got, Ren, Atn, Ifc, Own}
 use Rattle.vx_488.specs.Wire.{step}
-use Rattle.vx_bus_traits.specs.declared.asks.Ask.{Ask}
-use Rattle.vx_bus_traits.specs.declared.asks.Ask.TheVariants as ask
-use Rattle.vx_bus_traits.specs.declared.asks.Move.{Move}
-use Rattle.vx_bus_traits.specs.declared.asks.Move.TheVariants as answer
-use Rattle.vx_bus_traits.specs.declared.asks.GetOut.{GetOut}
-use Rattle.vx_bus_traits.specs.declared.asks.GetOut.TheVariants as get
-use Rattle.vx_bus_traits.specs.Means.{Means}
-use Rattle.vx_bus_traits.specs.Steps.{Step, Went, Held, Failed, Told, Cut, ask_for, move_step, get_step}
+use Rattle.vx_488.specs.declared.asks.Ask.{Ask}
+use Rattle.vx_488.specs.declared.asks.Ask.TheVariants as ask
+use Rattle.vx_488.specs.declared.asks.Move.{Move}
+use Rattle.vx_488.specs.declared.asks.Move.TheVariants as answer
+use Rattle.vx_488.specs.declared.asks.GetOut.{GetOut}
+use Rattle.vx_488.specs.declared.asks.GetOut.TheVariants as get
+use Rattle.vx_488.specs.Means.{Means}
+use Rattle.vx_488.specs.Steps.{Step, Went, Held, Failed, Told, Cut, ask_for, move_step, get_step}
 
 pub record MemState : Type 0 where
   -- what it means to whoever asks it

@@ -3,14 +3,13 @@
 ghost use Rattle.std.specs.Prelude.{◌≡◌, ◌<◌, ◌≤◌, false, IfOk};
 ghost use Rattle.vx_488.specs.declared.transfers.TheConstants.{ADDRESS_MAX};
 ghost use Rattle.vx_488.specs.declared.transfers.Transfer.TheVariants.{Cmd, Put, Ifc, Own};
-ghost use Rattle.vx_bus_traits.specs.Means.{first_means};
-ghost use Rattle.vx_bus_traits.specs.Steps.{Went, Held, Failed, Told, Cut, move_step, get_step, line_transfer, IsStepped};
+ghost use Rattle.vx_488.specs.Means.{first_means};
+ghost use Rattle.vx_488.specs.Steps.{Went, Held, Failed, Told, Cut, move_step, get_step, line_transfer, IsStepped};
 ghost use Rattle.vx_bus.specs.MemState.{next_move, byte_or_hold, next_get, gets_after, made, refused, after, Through};
 
 use std::alloc::Global;
 use std::marker::Model;
-use vx_488::{Line, Transfer, Wire};
-use vx_bus_traits::{ASK_MAX, Ask, Bus, GetOut, Move};
+use vx_488::{ASK_MAX, Ask, Bus, GetOut, Line, Move, Transfer, Wire};
 
 /// Memory was refused.
 #[derive(Clone, Copy, Debug, PartialEq, Eq)]
@@ -35,7 +34,7 @@ pub struct MemBus {
 
 impl Model for MemBus {
     ghost use Rattle.std.specs.Prelude.{◌≤◌, drop, vec_len, vec_capacity};
-    ghost use Rattle.vx_bus_traits.specs.declared.asks.TheConstants.{ASK_MAX};
+    ghost use Rattle.vx_488.specs.declared.asks.TheConstants.{ASK_MAX};
     ghost use Rattle.vx_bus.specs.MemState.{MemState};
 
     ghost Value = { MemState };
@@ -186,7 +185,7 @@ impl MemBus {
 impl Bus for MemBus {
     ghost use Rattle.std.specs.Prelude.{◌≡◌, ◌<◌, ◌≤◌, false};
     ghost use Rattle.vx_488.specs.declared.transfers.Transfer.TheVariants.{Cmd, Put, Ifc, Own};
-    ghost use Rattle.vx_bus_traits.specs.Steps.{Told, Cut, move_step, get_step, line_transfer, IsStepped};
+    ghost use Rattle.vx_488.specs.Steps.{Told, Cut, move_step, get_step, line_transfer, IsStepped};
     ghost use Rattle.vx_bus.specs.MemState.{next_move, next_get, after, Through};
 
     ghost means = { λ s. s.means };

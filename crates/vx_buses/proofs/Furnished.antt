@@ -5,7 +5,7 @@ use Rattle.std.specs.Prelude.{remove, slice_index_or, is_ok, IfOk, IfSome, if◌
 use Rattle.std.specs.Result.{result_ok}
 use Rattle.std.proofs.lemmas.List.{length-map}
 use Rattle.std.proofs.lemmas.List.Elements.{All-nil, All-cons, All-head, All-tail}
-use Rattle.vx_bus_traits.specs.declared.bus.Bus.{Ghosts}
+use Rattle.vx_488.specs.declared.bus.Bus.{Ghosts}
 use Rattle.vx_inst.specs.Behavior.{Behavior}
 use Rattle.vx_lone.specs.Lone.{handed, IsOneOf}
 use Rattle.vx_rack.specs.declared.Spare.{Spare}

@@ -1,7 +1,7 @@
 -- How a run comes to its end: the work at the port is what was asked.
 use Rattle.vx_text.specs.Ends.{End}
 use Rattle.std.proofs.Common.{◌≡◌, ℕ, sym, subst}
-use Rattle.vx_bus_traits.specs.declared.bus.Bus.{Ghosts}
+use Rattle.vx_488.specs.declared.bus.Bus.{Ghosts}
 use Rattle.vx_core.specs.CoreState.{CoreState}
 use Rattle.vx_desks.specs.Four.{Four}
 use Rattle.vx_peers.specs.declared.words.Ask.{Ask}

@@ -3,7 +3,7 @@
 use Rattle.std.specs.Prelude.{◌≡◌, ◌≢◌, ◌≤◌, ℕ}
 use Rattle.vx_io_traits.specs.declared.links.Link.{Ghosts as OfLink}
 use Rattle.vx_door.specs.Going.{Went}
-use Rattle.vx_bus_traits.specs.declared.bus.Bus.{Ghosts}
+use Rattle.vx_488.specs.declared.bus.Bus.{Ghosts}
 use Rattle.vx_core.specs.CoreState.{CoreState}
 use Rattle.vx_gate.specs.PassView.{PassView, GateId}
 use Rattle.vx_desks.specs.Four.{Four, at, Each}

@@ -11,7 +11,7 @@ use Rattle.vx_peers.specs.declared.words.Ask.{Ask}
 use Rattle.vx_peers.specs.declared.serving.DoorStatus.{DoorStatus}
 use Rattle.vx_peers.specs.declared.serving.DoorStatus.TheVariants as status
 use Rattle.vx_peers.specs.Outcome.{PeerShows, PeerAsks, AsksNothing, PeerPutsLine, IsPeerServed, peer_status_number}
-use Rattle.vx_bus_traits.specs.declared.bus.Bus.{Ghosts}
+use Rattle.vx_488.specs.declared.bus.Bus.{Ghosts}
 use Rattle.vx_core.specs.CoreState.{CoreState}
 use Rattle.vx_desks.specs.Four.{Four}
 use Rattle.vx_session.specs.declared.links.Linked.{Linked}

@@ -2,7 +2,7 @@
 -- The four gateways of the program as they start.
 use Rattle.std.specs.Prelude.{◌≡◌, ℕ, List, [], ◌∷◌, ◌++◌, None}
 use Rattle.vx_488.specs.declared.transfers.Addr.{Addr}
-use Rattle.vx_bus_traits.specs.declared.bus.Bus.{Ghosts}
+use Rattle.vx_488.specs.declared.bus.Bus.{Ghosts}
 use Rattle.vx_flow.specs.InterleavedState.{first_interleaved}
 use Rattle.vx_inst.specs.Behavior.{Behavior}
 use Rattle.vx_rack.specs.declared.Spare.{Spare}

@@ -1,7 +1,7 @@
 //! Four gateways as what serves the links of a door.
 use std::alloc::Global;
 use std::sync::Wait;
-use vx_bus_traits::Bus;
+use vx_488::Bus;
 use vx_desks::{BusPass, Buses, LinkServer, many_link};
 use vx_door::Door;
 use vx_io_traits::{Clock, Pause};

@@ -15,7 +15,7 @@ use crate::starting::{BusOver, start_over};
 use std::alloc::Global;
 use std::marker::Brand;
 use std::sync::Wait;
-use vx_bus_traits::Bus;
+use vx_488::Bus;
 use vx_desks::{BusPass, Buses};
 use vx_door::Door;
 use vx_inst::Instrument;

@@ -1,7 +1,7 @@
 //! The gateways of the program as they start: each over a simulated bus with one instrument.
 ghost use Rattle.std.specs.Prelude.{◌≡◌, ◌<◌, ◌+◌, [], ⊤, length, IfSome};
 ghost use Rattle.std.specs.List.{All, AllZip};
-ghost use Rattle.vx_bus_traits.specs.Means.{first_means};
+ghost use Rattle.vx_488.specs.Means.{first_means};
 ghost use Rattle.vx_desks.specs.Four.{Each, listed};
 ghost use Rattle.vx_desks.specs.Passing.{passes_shown, IsFirst};
 ghost use Rattle.vx_desks.specs.Standing.{gates_shown, firsts_shown};
@@ -12,8 +12,7 @@ ghost use Rattle.vx_sim.specs.SimState.{first_state};
 ghost use Rattle.vx_buses.specs.Starting.{place, Begins, AddsCore, AreFurnished};
 
 use std::alloc::Global;
-use vx_488::Addr;
-use vx_bus_traits::Bus;
+use vx_488::{Addr, Bus};
 use vx_core::Core;
 use vx_desks::{BusPass, Buses};
 use vx_inst::Instrument;

@@ -17,7 +17,7 @@ use Rattle.vx_488.specs.declared.transfers.Transfer.{Transfer}
 use Rattle.vx_488.specs.declared.wire.Wire.{Wire}
 use Rattle.vx_488.specs.Wire.{first_wire}
 use Rattle.vx_plan.specs.Plan.{Whole}
-use Rattle.vx_bus_traits.specs.Means.{Means}
+use Rattle.vx_488.specs.Means.{Means}
 use Rattle.vx_rules.specs.SrqState.{Given, given, taken, sampled}
 use Rattle.vx_rules.specs.State.{Tables, connection_at, pending_at, lives_as, is_idle, has_room, with_pending, with_connection, without_connection, first_tables}
 use Rattle.vx_rules.specs.AtomicStep.{may_wait, arrived, abort_reply, abort_tables}

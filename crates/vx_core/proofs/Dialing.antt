@@ -9,7 +9,7 @@ use Rattle.std.proofs.lemmas.List.Elements.{All-filter, All-push, All-weaker}
 use Rattle.vx_lemmas.proofs.Laws.Conditions.{passes}
 use Rattle.vx_lemmas.proofs.Laws.Options.{nothing}
 use Rattle.vx_lemmas.proofs.Laws.Lists.{found_passes, found_holds, found_among, All-kept}
-use Rattle.vx_bus_traits.specs.Means.{Means}
+use Rattle.vx_488.specs.Means.{Means}
 use Rattle.vx_calls.specs.declared.calls.Role.TheVariants as role
 use Rattle.vx_calls.specs.declared.codes.ErrorCode.{ErrorCode}
 use Rattle.vx_calls.specs.declared.codes.ErrorCode.TheVariants as code

@@ -7,9 +7,9 @@ use Rattle.vx_lemmas.proofs.Laws.Conditions.{chosen, eqb-self}
 use Rattle.vx_calls.specs.declared.limits.TheConstants.{READ_MAX}
 use Rattle.vx_calls.specs.Reply.{Reply}
 use Rattle.vx_488.specs.declared.transfers.Transfer.{Transfer}
-use Rattle.vx_bus_traits.specs.Means.{Means}
-use Rattle.vx_bus_traits.specs.Steps.{Step, Went}
-use Rattle.vx_bus_traits.specs.Walks.{Walk}
+use Rattle.vx_488.specs.Means.{Means}
+use Rattle.vx_488.specs.Steps.{Step, Went}
+use Rattle.vx_488.specs.Walks.{Walk}
 use Rattle.vx_rules.specs.Lists.{along}
 use Rattle.vx_rules.specs.State.{Pending, Tables, pending_at, with_pending}
 use Rattle.vx_rules.specs.Lines.{first_lines}

@@ -8,7 +8,7 @@ use Rattle.vx_488.specs.declared.transfers.Transfer.{Transfer}
 use Rattle.vx_488.specs.declared.wire.Wire.{Wire}
 use Rattle.vx_488.specs.Wire.{wire_after}
 use Rattle.vx_plan.specs.Plan.{Stand, Whole, Part, Off}
-use Rattle.vx_bus_traits.specs.Means.{Means}
+use Rattle.vx_488.specs.Means.{Means}
 use Rattle.vx_ctrl.specs.Turns.{TurnState, HasMade}
 use Rattle.vx_ctrl.specs.Goes.{TurnBegins, HoldsBytes}
 use Rattle.vx_rules.specs.State.{pending_at}

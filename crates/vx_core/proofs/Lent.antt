@@ -4,8 +4,8 @@ use Rattle.std.specs.Option.{option_map}
 use Rattle.std.proofs.lemmas.List.{length-take}
 use Rattle.vx_calls.specs.declared.limits.TheConstants.{READ_MAX, SLICE_MAX}
 use Rattle.vx_calls.specs.Reply.{Reply}
-use Rattle.vx_bus_traits.specs.Means.{Means}
-use Rattle.vx_bus_traits.specs.Steps.{Step}
+use Rattle.vx_488.specs.Means.{Means}
+use Rattle.vx_488.specs.Steps.{Step}
 use Rattle.vx_flow.specs.Poll.{begins, ran_of, FitsSlice}
 use Rattle.vx_flow.specs.declared.progress.Ran.{Ran}
 use Rattle.vx_flow.specs.declared.progress.Ran.TheVariants as ran

@@ -21,9 +21,9 @@ use Rattle.vx_plan.specs.Results.{whole_reply}
 use Rattle.vx_plan.specs.Tasks.{plan, IsPlainTask}
 use Rattle.vx_plan.proofs.Laws.{left_after-none, left_after-append, left-on}
 use Rattle.vx_flow.proofs.Laws.{OwnHas, own-after, finished_law-holds, broken_law-holds, timeout_law-holds, held_law-holds, sliced_law-holds}
-use Rattle.vx_bus_traits.specs.Means.{Means}
-use Rattle.vx_bus_traits.specs.Steps.{Step, Went}
-use Rattle.vx_bus_traits.specs.Walks.{Walk}
+use Rattle.vx_488.specs.Means.{Means}
+use Rattle.vx_488.specs.Steps.{Step, Went}
+use Rattle.vx_488.specs.Walks.{Walk}
 use Rattle.vx_ctrl.specs.declared.turn.Went.{Went as Outcome}
 use Rattle.vx_ctrl.specs.declared.turn.Went.TheVariants as went
 use Rattle.vx_ctrl.specs.Turns.{TurnState, HasMade}

@@ -28,7 +28,7 @@ use Rattle.vx_ctrl.specs.Turns.{TurnState, GetsBytes, moved_by, reason_by}
 use Rattle.vx_ctrl.specs.Goes.{HoldsBytes}
 use Rattle.vx_ctrl.proofs.Laws.{most_puts, most_gets, fares, length-gots, length-bytes_got, moved-got}
 use Rattle.vx_rules.specs.Effects.{stopped_reply}
-use Rattle.vx_bus_traits.specs.Means.{Means}
+use Rattle.vx_488.specs.Means.{Means}
 use Rattle.vx_rules.specs.Calls.{bytes_of}
 use Rattle.vx_rules.specs.Decide.{stand_of_job}
 use Rattle.vx_flow.specs.InterleavedState.{Turn, turn_of, moves_of}

@@ -14,9 +14,9 @@ use Rattle.vx_calls.specs.Call.{Call}
 use Rattle.vx_calls.specs.Call as call
 use Rattle.vx_calls.specs.Reply.{Reply}
 use Rattle.vx_calls.specs.Reply as reply
-use Rattle.vx_bus_traits.specs.Means.{Means}
-use Rattle.vx_bus_traits.specs.Steps.{Step, Told, Cut}
-use Rattle.vx_bus_traits.specs.Walks.{Walk}
+use Rattle.vx_488.specs.Means.{Means}
+use Rattle.vx_488.specs.Steps.{Step, Told, Cut}
+use Rattle.vx_488.specs.Walks.{Walk}
 use Rattle.vx_rules.specs.SrqState.{channel_at, has_number, with_new_channel}
 use Rattle.vx_rules.specs.State.{Pending, Tables, pending_at, with_pending}
 use Rattle.vx_rules.specs.Calls.{is_bus_call, is_lock_call}

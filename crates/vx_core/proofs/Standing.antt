@@ -1,9 +1,9 @@
 -- A core that became of a first one goes on.
 use Rattle.std.proofs.Common.{◌≡◌, ◌≤◌, ◌++◌, List, [], ◌∷◌, Some, sym, ◌∙◌, subst}
-use Rattle.vx_bus_traits.specs.Means.{Means}
-use Rattle.vx_bus_traits.specs.Steps.{Step}
-use Rattle.vx_bus_traits.specs.Walks.{Walk, StepsTo}
-use Rattle.vx_bus_traits.proofs.Laws.Puts.{path-append}
+use Rattle.vx_488.specs.Means.{Means}
+use Rattle.vx_488.specs.Steps.{Step}
+use Rattle.vx_488.specs.Walks.{Walk, StepsTo}
+use Rattle.vx_488.proofs.Laws.Puts.{path-append}
 use Rattle.vx_flow.specs.InterleavedState.{InterleavedState}
 use Rattle.vx_group.specs.Groups.{Group, StandsFor, steps_of}
 use Rattle.vx_group.specs.Laws.{group_after, StandsOnLaw}

@@ -9,7 +9,7 @@ use Rattle.vx_calls.specs.Call as call
 use Rattle.vx_rules.specs.SrqState.{channel_at}
 use Rattle.vx_plan.specs.Tasks.{IsPlainTask, HasBytes, most_bytes}
 use Rattle.vx_plan.specs.Plan.{Part}
-use Rattle.vx_bus_traits.specs.Means.{Means}
+use Rattle.vx_488.specs.Means.{Means}
 use Rattle.vx_ctrl.specs.Turns.{GetsBytes}
 use Rattle.vx_ctrl.specs.Goes.{TurnBegins, HoldsBytes}
 use Rattle.vx_rules.specs.State.{Pending, Tables, pending_at, count_of}

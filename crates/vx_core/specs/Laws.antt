@@ -1,8 +1,8 @@
 -- Laws of cores and their histories.
 use Rattle.std.specs.Prelude.{◌≡◌, ◌≤◌, ◌++◌, List, [], ◌∷◌, Some}
-use Rattle.vx_bus_traits.specs.Means.{Means}
-use Rattle.vx_bus_traits.specs.Steps.{Step}
-use Rattle.vx_bus_traits.specs.Walks.{Walk}
+use Rattle.vx_488.specs.Means.{Means}
+use Rattle.vx_488.specs.Steps.{Step}
+use Rattle.vx_488.specs.Walks.{Walk}
 use Rattle.vx_rules.specs.Lists.{along}
 use Rattle.vx_flow.specs.Event.{Event}
 use Rattle.vx_flow.specs.InterleavedState.{InterleavedState}

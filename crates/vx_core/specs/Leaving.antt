@@ -1,8 +1,8 @@
 -- What a poll leaves of what a core keeps.
 use Rattle.std.specs.Prelude.{◌≡◌, ◌≤◌, ℕ, Bool, max, [], ◌∷◌}
 use Rattle.vx_calls.specs.declared.limits.TheConstants.{READ_MAX}
-use Rattle.vx_bus_traits.specs.Means.{Means}
-use Rattle.vx_bus_traits.specs.Steps.{Step, Told, Cut}
+use Rattle.vx_488.specs.Means.{Means}
+use Rattle.vx_488.specs.Steps.{Step, Told, Cut}
 use Rattle.vx_core.specs.declared.ended.Ended.{Ended}
 use Rattle.vx_core.specs.KernelState.{KernelState}
 use Rattle.vx_core.specs.Shown.{interleaved_of}

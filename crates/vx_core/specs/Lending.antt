@@ -5,9 +5,9 @@ use denote.RattleType.{RattleType}
 use Rattle.std.specs.Io.BufRead.{Rests}
 use Rattle.vx_calls.specs.declared.limits.TheConstants.{READ_MAX, SLICE_MAX}
 use Rattle.vx_calls.specs.Reply.{reply_shown}
-use Rattle.vx_bus_traits.specs.Means.{Means}
-use Rattle.vx_bus_traits.specs.Steps.{Step, Told, Cut}
-use Rattle.vx_bus_traits.specs.declared.bus.Bus.{Ghosts}
+use Rattle.vx_488.specs.Means.{Means}
+use Rattle.vx_488.specs.Steps.{Step, Told, Cut}
+use Rattle.vx_488.specs.declared.bus.Bus.{Ghosts}
 use Rattle.vx_flow.specs.Poll.{Ending, Answered, Waited, Dialed, begins}
 use Rattle.vx_core.specs.CoreState.{CoreState}
 use Rattle.vx_core.specs.Given.{reply_bytes}

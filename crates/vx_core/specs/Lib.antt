@@ -13,9 +13,9 @@ pub mod Laws
 pub use Rattle.vx_calls.specs.Call
 pub use Rattle.vx_calls.specs.Reply
 pub use Rattle.vx_488.specs.Wire
-pub use Rattle.vx_bus_traits.specs.Means
-pub use Rattle.vx_bus_traits.specs.Steps
-pub use Rattle.vx_bus_traits.specs.Walks
+pub use Rattle.vx_488.specs.Means
+pub use Rattle.vx_488.specs.Steps
+pub use Rattle.vx_488.specs.Walks
 pub use Rattle.vx_plan.specs.Plan
 pub use Rattle.vx_plan.specs.Results
 pub use Rattle.vx_plan.specs.Roles

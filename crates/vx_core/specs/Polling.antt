@@ -6,9 +6,9 @@ use Rattle.vx_plan.specs.declared.tasks.Task.{Task}
 use Rattle.vx_plan.specs.declared.tasks.Task.TheVariants.{Status}
 use Rattle.vx_plan.specs.Plan.{Slot, left_after, next_slot}
 use Rattle.vx_plan.specs.Tasks.{plan}
-use Rattle.vx_bus_traits.specs.Means.{Means}
-use Rattle.vx_bus_traits.specs.Steps.{Step, Went, Held, Failed}
-use Rattle.vx_bus_traits.specs.Walks.{Walk}
+use Rattle.vx_488.specs.Means.{Means}
+use Rattle.vx_488.specs.Steps.{Step, Went, Held, Failed}
+use Rattle.vx_488.specs.Walks.{Walk}
 use Rattle.vx_ctrl.specs.Goes.{ask_of}
 use Rattle.vx_rules.specs.State.{Pending}
 use Rattle.vx_rules.specs.Calls.{bytes_of}

@@ -1,9 +1,9 @@
 -- To be believed.
 -- For which histories a core stands.
 use Rattle.std.specs.Prelude.{◌≡◌, List}
-use Rattle.vx_bus_traits.specs.Means.{Means}
-use Rattle.vx_bus_traits.specs.Steps.{Step}
-use Rattle.vx_bus_traits.specs.Walks.{Walk}
+use Rattle.vx_488.specs.Means.{Means}
+use Rattle.vx_488.specs.Steps.{Step}
+use Rattle.vx_488.specs.Walks.{Walk}
 use Rattle.vx_group.specs.Groups.{Group, StandsFor, steps_of}
 use Rattle.vx_core.specs.CoreState.{CoreState}
 

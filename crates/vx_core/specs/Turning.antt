@@ -1,8 +1,8 @@
 -- The turn of a call, as it begins and goes on.
 use Rattle.std.specs.Prelude.{◌≡◌, ℕ, if◌then◌else◌, [], ◌++◌, Option, Some, None, IsSome}
 use Rattle.vx_488.specs.Wire.{wire_after}
-use Rattle.vx_bus_traits.specs.Means.{Means}
-use Rattle.vx_bus_traits.specs.Steps.{Step}
+use Rattle.vx_488.specs.Means.{Means}
+use Rattle.vx_488.specs.Steps.{Step}
 use Rattle.vx_ctrl.specs.declared.turn.Went.{Went}
 use Rattle.vx_ctrl.specs.Turns.{TurnState}
 use Rattle.vx_ctrl.specs.Goes.{TurnGoes}

@@ -1,6 +1,6 @@
 //! The core as what a gate keeps: its history is the groups of events that turns add.
 use crate::shared::Core;
-use vx_bus_traits::Bus;
+use vx_488::Bus;
 use vx_gate::Kept;
 use vx_group::EventGroup;
 

@@ -33,7 +33,7 @@ use crate::ended::{Ended, Settled, StoredReply};
 use crate::kernel::Kernel;
 use crate::replies::{finished, level_told, moved_by};
 use crate::running::Running;
-use vx_bus_traits::Bus;
+use vx_488::Bus;
 use vx_calls::{ErrorCode, conflicts};
 use vx_ctrl::{Turn, Went};
 use vx_flow::Ran;

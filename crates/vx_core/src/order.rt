@@ -12,7 +12,7 @@ ghost use Rattle.vx_core.specs.Turning.{HasHeard, HasPassed, HasTurn, IsFree};
 
 use crate::ended::Ended;
 use crate::kernel::Kernel;
-use vx_bus_traits::Bus;
+use vx_488::Bus;
 use vx_calls::ErrorCode;
 use vx_ctrl::Went;
 use vx_flow::{Ran, Why};

@@ -12,8 +12,7 @@ ghost use Rattle.vx_core.specs.Given.{given_reply, given_len};
 ghost use Rattle.vx_core.specs.Polling.{level_told};
 
 use crate::ended::StoredReply;
-use vx_488::Wire;
-use vx_bus_traits::Bus;
+use vx_488::{Bus, Wire};
 use vx_calls::ErrorCode;
 use vx_ctrl::Turn;
 use vx_plan::Task;

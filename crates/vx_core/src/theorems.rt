@@ -2,7 +2,7 @@
 //! law calls its function.
 ghost use Rattle.vx_core.specs.Laws.{BecameOnLaw};
 
-use vx_bus_traits::Bus;
+use vx_488::Bus;
 use vx_group::stands_law;
 
 /// A core that became of a first one by a history goes on with it: behind events that are allowed and steps of its bus it became of

@@ -1,12 +1,12 @@
 -- What a bus's answer says of the ask.
 use Rattle.std.proofs.Common.{Some, refl}
 use Rattle.vx_488.specs.declared.transfers.Transfer.{Transfer}
-use Rattle.vx_bus_traits.specs.declared.asks.Move.{Move}
-use Rattle.vx_bus_traits.specs.declared.asks.Move.TheVariants.{Went, Held, Failed}
-use Rattle.vx_bus_traits.specs.declared.asks.GetOut.{GetOut}
-use Rattle.vx_bus_traits.specs.declared.asks.GetOut.TheVariants as get
-use Rattle.vx_bus_traits.specs.Means.{Means}
-use Rattle.vx_bus_traits.specs.Steps.{Step, move_step, get_step, IsStepped}
+use Rattle.vx_488.specs.declared.asks.Move.{Move}
+use Rattle.vx_488.specs.declared.asks.Move.TheVariants.{Went, Held, Failed}
+use Rattle.vx_488.specs.declared.asks.GetOut.{GetOut}
+use Rattle.vx_488.specs.declared.asks.GetOut.TheVariants as get
+use Rattle.vx_488.specs.Means.{Means}
+use Rattle.vx_488.specs.Steps.{Step, move_step, get_step, IsStepped}
 use Rattle.vx_plan.specs.Plan.{This, AnyByte}
 use Rattle.vx_ctrl.specs.Asking.{sent_as, got_as, TurnAsks}
 

@@ -10,10 +10,10 @@ use Rattle.std.proofs.lemmas.List.Sums.{sum_by-cons}
 use Rattle.std.proofs.Math.Bool.{and-true, and-false}
 use Rattle.vx_488.specs.declared.transfers.Transfer.{Transfer}
 use Rattle.vx_488.specs.declared.transfers.Transfer.TheVariants.{Put, Got}
-use Rattle.vx_bus_traits.specs.declared.bursts.Stop.{Stop}
-use Rattle.vx_bus_traits.specs.declared.bursts.Stop.TheVariants as why
-use Rattle.vx_bus_traits.specs.Bursts.{ended, is_end, is_char, IsClear, StopsAt}
-use Rattle.vx_bus_traits.proofs.Laws.Gets.{ended-behind}
+use Rattle.vx_488.specs.declared.bursts.Stop.{Stop}
+use Rattle.vx_488.specs.declared.bursts.Stop.TheVariants as why
+use Rattle.vx_488.specs.Bursts.{ended, is_end, is_char, IsClear, StopsAt}
+use Rattle.vx_488.proofs.Laws.Gets.{ended-behind}
 use Rattle.vx_plan.specs.declared.tasks.Task.{Task}
 use Rattle.vx_plan.specs.Plan.{Reading, Plan, is_stop, read_left, left_after}
 use Rattle.vx_plan.specs.Tasks.{puts, just}

@@ -7,9 +7,9 @@ use Rattle.vx_488.specs.declared.transfers.Transfer.{Transfer}
 use Rattle.vx_488.specs.declared.wire.Wire.{Wire}
 use Rattle.vx_488.specs.Wire.{wire_after}
 use Rattle.vx_488.specs.Laws.{WireAppendsLaw}
-use Rattle.vx_bus_traits.specs.Means.{Means}
-use Rattle.vx_bus_traits.specs.Steps.{Step, Went}
-use Rattle.vx_bus_traits.specs.Walks.{StepsTo, Walk}
+use Rattle.vx_488.specs.Means.{Means}
+use Rattle.vx_488.specs.Steps.{Step, Went}
+use Rattle.vx_488.specs.Walks.{StepsTo, Walk}
 use Rattle.vx_plan.specs.declared.tasks.Task.{Task}
 use Rattle.vx_plan.specs.declared.tasks.Place.{Place}
 use Rattle.vx_plan.specs.declared.tasks.Next.{Next}
@@ -19,7 +19,7 @@ use Rattle.vx_plan.specs.Results.{bytes_got}
 use Rattle.vx_plan.specs.Transfers.{is_got}
 use Rattle.vx_plan.specs.Tasks.{IsPlainTask}
 use Rattle.vx_calls.specs.declared.limits.TheConstants.{SLICE_MAX, WRITE_MAX}
-use Rattle.vx_bus_traits.specs.declared.asks.TheConstants.{ASK_MAX}
+use Rattle.vx_488.specs.declared.asks.TheConstants.{ASK_MAX}
 use Rattle.vx_plan.specs.Places.{Reaches, IsReached, slot_wanted}
 use Rattle.vx_plan.specs.Runs.{place_behind}
 use Rattle.vx_plan.specs.Laws.{RunLaw}
@@ -34,7 +34,7 @@ use Rattle.vx_ctrl.specs.Asking.{TurnAsks, IsPlainNext}
 use Rattle.vx_ctrl.specs.Runs.{behind_slice_of, TurnEndsRun, Runs}
 use Rattle.vx_ctrl.proofs.Laws.Sizes.{most_gets}
 use Rattle.vx_ctrl.proofs.Laws.Fares.{fares, own-short, moved-got, room-left, gets-bytes, length-gots, length-bytes_got, bytes_got-append}
-use Rattle.vx_bus_traits.proofs.Laws.Puts.{path-append}
+use Rattle.vx_488.proofs.Laws.Puts.{path-append}
 use Rattle.vx_ctrl.proofs.Walking.{walk-went}
 use Rattle.vx_ctrl.proofs.Rooms.{with-more, with-none, take-with}
 

@@ -2,9 +2,9 @@
 use Rattle.std.proofs.Common.{◌≡◌, List, [], ◌∷◌, ◌++◌, refl, sym, ap, ◌∙◌, arith, append_assoc, add-zero, ◌+◌, length}
 use Rattle.std.proofs.lemmas.List.{append-nil}
 use Rattle.vx_488.specs.Wire.{wire_after}
-use Rattle.vx_bus_traits.specs.Means.{Means}
-use Rattle.vx_bus_traits.specs.Steps.{Step, Path}
-use Rattle.vx_bus_traits.proofs.Laws.Puts.{path-append}
+use Rattle.vx_488.specs.Means.{Means}
+use Rattle.vx_488.specs.Steps.{Step, Path}
+use Rattle.vx_488.proofs.Laws.Puts.{path-append}
 use Rattle.vx_ctrl.specs.Laws.{WentLaw}
 
 -- a path over two lists is a path over one, and one over the other from there on

@@ -3,13 +3,13 @@ use Rattle.std.specs.Prelude.{◌≡◌, ◌≤◌, ⊤, Option, Some, None}
 use Rattle.vx_488.specs.declared.transfers.TheConstants.{ADDRESS_MAX}
 use Rattle.vx_488.specs.declared.transfers.Transfer.{Transfer}
 use Rattle.vx_488.specs.declared.transfers.Transfer.TheVariants.{Got}
-use Rattle.vx_bus_traits.specs.declared.asks.Move.{Move}
-use Rattle.vx_bus_traits.specs.declared.asks.Move.TheVariants as move
-use Rattle.vx_bus_traits.specs.declared.asks.GetOut.{GetOut}
-use Rattle.vx_bus_traits.specs.declared.asks.GetOut.TheVariants as get
-use Rattle.vx_bus_traits.specs.Means.{Means}
-use Rattle.vx_bus_traits.specs.Steps.{Step, Went, Held, Failed}
-use Rattle.vx_bus_traits.specs.Walks.{StepsTo}
+use Rattle.vx_488.specs.declared.asks.Move.{Move}
+use Rattle.vx_488.specs.declared.asks.Move.TheVariants as move
+use Rattle.vx_488.specs.declared.asks.GetOut.{GetOut}
+use Rattle.vx_488.specs.declared.asks.GetOut.TheVariants as get
+use Rattle.vx_488.specs.Means.{Means}
+use Rattle.vx_488.specs.Steps.{Step, Went, Held, Failed}
+use Rattle.vx_488.specs.Walks.{StepsTo}
 use Rattle.vx_plan.specs.declared.tasks.Next.{Next}
 use Rattle.vx_plan.specs.declared.tasks.Next.TheVariants as next
 use Rattle.vx_plan.specs.Plan.{Slot}

@@ -5,11 +5,11 @@ use Rattle.vx_calls.specs.declared.limits.TheConstants.{SLICE_MAX}
 use Rattle.vx_488.specs.declared.transfers.Transfer.{Transfer}
 use Rattle.vx_488.specs.declared.wire.Wire.{Wire}
 use Rattle.vx_488.specs.Wire.{wire_after}
-use Rattle.vx_bus_traits.specs.declared.asks.Ask.{Ask}
-use Rattle.vx_bus_traits.specs.declared.asks.Ask.TheVariants as ask
-use Rattle.vx_bus_traits.specs.Means.{Means}
-use Rattle.vx_bus_traits.specs.Steps.{Step, Went, Held, Failed, ask_for}
-use Rattle.vx_bus_traits.specs.Walks.{Walk}
+use Rattle.vx_488.specs.declared.asks.Ask.{Ask}
+use Rattle.vx_488.specs.declared.asks.Ask.TheVariants as ask
+use Rattle.vx_488.specs.Means.{Means}
+use Rattle.vx_488.specs.Steps.{Step, Went, Held, Failed, ask_for}
+use Rattle.vx_488.specs.Walks.{Walk}
 use Rattle.vx_plan.specs.Plan.{Slot, This, AnyByte, Plan, Stand, Whole, Part, stand_of, next_slot}
 use Rattle.vx_plan.specs.Results.{bytes_got}
 use Rattle.vx_ctrl.specs.declared.turn.Went.{Went as Outcome}

@@ -2,9 +2,9 @@
 use Rattle.std.specs.Prelude.{◌≡◌, ◌↔◌, ◌+◌, List, ◌++◌, map, length}
 use Rattle.vx_488.specs.declared.transfers.Transfer.{Transfer}
 use Rattle.vx_488.specs.Wire.{wire_after}
-use Rattle.vx_bus_traits.specs.Means.{Means}
-use Rattle.vx_bus_traits.specs.Steps.{Step, Went}
-use Rattle.vx_bus_traits.specs.Walks.{Walk}
+use Rattle.vx_488.specs.Means.{Means}
+use Rattle.vx_488.specs.Steps.{Step, Went}
+use Rattle.vx_488.specs.Walks.{Walk}
 
 -- a walk over two lists of steps is one over the first, and one over the second from there on
 abbrev pub WalkAppendsLaw : {B : Type 0} → (B → Means) → (B → Step → B → Type 0) → Type 0

@@ -4,9 +4,9 @@ pub mod Asking
 pub mod Runs
 pub mod Laws
 pub use Rattle.vx_488.specs.Wire
-pub use Rattle.vx_bus_traits.specs.Means
-pub use Rattle.vx_bus_traits.specs.Steps
-pub use Rattle.vx_bus_traits.specs.Walks
+pub use Rattle.vx_488.specs.Means
+pub use Rattle.vx_488.specs.Steps
+pub use Rattle.vx_488.specs.Walks
 pub use Rattle.vx_plan.specs.Places
 pub use Rattle.vx_plan.specs.Plan
 pub use Rattle.vx_plan.specs.Results

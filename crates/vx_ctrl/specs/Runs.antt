@@ -1,13 +1,13 @@
 -- A run of a turn that goes on: a burst of data bytes, or one other transfer.
 use Rattle.std.specs.Prelude.{◌≡◌, ◌<◌, ◌≤◌, ℕ, List, map, length, Option, Some, None}
 use Rattle.vx_488.specs.declared.transfers.Transfer.{Transfer}
-use Rattle.vx_bus_traits.specs.declared.asks.Move.{Move}
-use Rattle.vx_bus_traits.specs.declared.asks.Move.TheVariants as move
-use Rattle.vx_bus_traits.specs.declared.bursts.Stop.{Stop}
-use Rattle.vx_bus_traits.specs.declared.bursts.Stop.TheVariants as stop
-use Rattle.vx_bus_traits.specs.Means.{Means}
-use Rattle.vx_bus_traits.specs.Steps.{Step, Went}
-use Rattle.vx_bus_traits.specs.Walks.{Walk}
+use Rattle.vx_488.specs.declared.asks.Move.{Move}
+use Rattle.vx_488.specs.declared.asks.Move.TheVariants as move
+use Rattle.vx_488.specs.declared.bursts.Stop.{Stop}
+use Rattle.vx_488.specs.declared.bursts.Stop.TheVariants as stop
+use Rattle.vx_488.specs.Means.{Means}
+use Rattle.vx_488.specs.Steps.{Step, Went}
+use Rattle.vx_488.specs.Walks.{Walk}
 use Rattle.vx_plan.specs.Plan.{Slot, Plan, left_after, next_slot}
 use Rattle.vx_plan.specs.Places.{Reaches}
 use Rattle.vx_plan.specs.Runs.{place_behind}

@@ -1,12 +1,11 @@
 //! One ask of a bus: for what a job wants next.
 ghost use Rattle.std.specs.Prelude.{◌≡◌, ◌<◌, slice_index};
-ghost use Rattle.vx_bus_traits.specs.declared.asks.TheConstants.{ASK_MAX};
+ghost use Rattle.vx_488.specs.declared.asks.TheConstants.{ASK_MAX};
 ghost use Rattle.vx_plan.specs.Places.{slot_wanted};
 ghost use Rattle.vx_ctrl.specs.Asking.{sent_as, got_as, TurnAsks, IsPlainNext};
 
 use crate::turn::Went;
-use vx_488::{Line, Transfer};
-use vx_bus_traits::{Bus, GetOut, Move};
+use vx_488::{Bus, GetOut, Line, Move, Transfer};
 use vx_plan::Next;
 
 /// What an ask came to.

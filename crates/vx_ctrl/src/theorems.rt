@@ -2,7 +2,7 @@
 //! law calls its function.
 ghost use Rattle.vx_ctrl.specs.Laws.{WalkAppendsLaw, WentLaw};
 
-use vx_bus_traits::Bus;
+use vx_488::Bus;
 
 /// A walk of a bus over two lists of steps is one over the first, and one over the second from there on.
 pub fn walk_appends<B: Bus>()

@@ -6,7 +6,7 @@ ghost use Rattle.vx_488.specs.declared.transfers.Transfer.{Transfer};
 ghost use Rattle.vx_488.specs.declared.wire.Wire.{Wire};
 ghost use Rattle.vx_488.specs.Wire.{wire_after};
 ghost use Rattle.vx_plan.specs.Transfers.{is_got};
-ghost use Rattle.vx_bus_traits.specs.declared.asks.TheConstants.{ASK_MAX};
+ghost use Rattle.vx_488.specs.declared.asks.TheConstants.{ASK_MAX};
 ghost use Rattle.vx_plan.specs.Plan.{Plan, next_slot};
 ghost use Rattle.vx_plan.specs.Places.{Reaches, IsReached};
 ghost use Rattle.vx_plan.specs.Runs.{IsDataLeft};
@@ -14,7 +14,7 @@ ghost use Rattle.vx_plan.specs.declared.tasks.Task.TheVariants.{Write, Read};
 ghost use Rattle.vx_plan.specs.Tasks.{plan, IsPlainTask, HasBytes};
 ghost use Rattle.vx_plan.specs.Results.{bytes_got, gots, last_of, reason_of};
 ghost use Rattle.vx_488.specs.declared.transfers.Transfer.TheVariants.{Got};
-ghost use Rattle.vx_bus_traits.specs.Bursts.{ended, is_end};
+ghost use Rattle.vx_488.specs.Bursts.{ended, is_end};
 ghost use Rattle.vx_ctrl.specs.Turns.{HasMade, TurnHasRoom, GetsBytes, with_bytes, stored, moved_on, turn_reason, moved_by, reason_by};
 ghost use Rattle.vx_ctrl.specs.Asking.{TurnAsks};
 ghost use Rattle.vx_ctrl.specs.Runs.{Runs, behind_puts_of, behind_gets_of, behind_slice_of};
@@ -22,8 +22,7 @@ ghost use Rattle.vx_ctrl.specs.Goes.{TurnGoes, TurnBegins, HoldsBytes};
 
 use crate::asking::{BusAnswer, ask};
 use std::marker::Model;
-use vx_488::{Transfer, Wire, wire_appends};
-use vx_bus_traits::{Bus, Move, Stop};
+use vx_488::{Bus, Move, Stop, Transfer, Wire, wire_appends};
 use vx_calls::SLICE_MAX;
 use vx_plan::{
     Next, Place, Task, data_left, few_transfers, first_place, next_move, place_goes_on, run_goes_on,

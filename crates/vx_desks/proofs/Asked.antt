@@ -2,7 +2,7 @@
 use Rattle.std.proofs.Common.{◌≡◌, ◌≤◌, ℕ, List, [], ◌∷◌, take, refl, sym, ap, ◌∙◌, subst, slice_index}
 use Rattle.vx_calls.specs.declared.calls.Role.{Role}
 use Rattle.vx_calls.specs.Call.{Call}
-use Rattle.vx_bus_traits.specs.declared.bus.Bus.{Ghosts}
+use Rattle.vx_488.specs.declared.bus.Bus.{Ghosts}
 use Rattle.vx_exchange.specs.declared.polls.Aborted.{Aborted}
 use Rattle.vx_core.specs.CoreState.{CoreState}
 use Rattle.vx_gate.specs.PassView.{PassView, GateId}

@@ -13,7 +13,7 @@ use Rattle.vx_calls.specs.declared.limits.TheConstants.{DEVICE_MAX, RECORD_MAX}
 use Rattle.vx_calls.specs.Call.{Call}
 use Rattle.vx_calls.specs.Call as call
 use Rattle.vx_calls.specs.Reply as reply
-use Rattle.vx_bus_traits.specs.declared.bus.Bus.{Ghosts}
+use Rattle.vx_488.specs.declared.bus.Bus.{Ghosts}
 use Rattle.vx_exchange.specs.Meaning as one
 use Rattle.vx_rules.specs.Calls.{link_named}
 use Rattle.vx_desks.specs.declared.routes.counts.Count.{Count}

@@ -6,7 +6,7 @@ use Rattle.vx_calls.specs.declared.codes.ErrorCode.TheVariants as code
 use Rattle.vx_calls.specs.Call.{Call}
 use Rattle.vx_calls.specs.Call as call
 use Rattle.vx_calls.specs.Reply as reply
-use Rattle.vx_bus_traits.specs.declared.bus.Bus.{Ghosts}
+use Rattle.vx_488.specs.declared.bus.Bus.{Ghosts}
 use Rattle.vx_rpc.specs.Wording.{success_message}
 use Rattle.vx_codec.specs.Answered.{results}
 use Rattle.vx_rules.specs.Calls.{link_named}

@@ -1,7 +1,7 @@
 -- To be believed.
 -- What the histories of four gateways begin with.
 use Rattle.std.specs.Prelude.{ℕ}
-use Rattle.vx_bus_traits.specs.declared.bus.Bus.{Ghosts}
+use Rattle.vx_488.specs.declared.bus.Bus.{Ghosts}
 use Rattle.vx_core.specs.CoreState.{CoreState}
 use Rattle.vx_desks.specs.Four.{Four, at}
 use Rattle.vx_session.specs.Origin.{Origin, origin}

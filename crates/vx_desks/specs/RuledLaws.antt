@@ -1,5 +1,5 @@
 -- The laws that a guarded session stands on.
-use Rattle.vx_bus_traits.specs.declared.bus.Bus.{Ghosts}
+use Rattle.vx_488.specs.declared.bus.Bus.{Ghosts}
 use Rattle.vx_core.specs.CoreState.{CoreState}
 use Rattle.vx_group.specs.Laws.{ClaimsOfGroupsLaw, OwnedLaw, LinksLaw, FewLinksLaw}
 use Rattle.vx_session.specs.Origin.{origin}

@@ -18,7 +18,7 @@ use crate::BusPass;
 use crate::asking::{FleetWorker, ask_bus};
 use crate::routes::{Destination, route};
 use std::sync::Wait;
-use vx_bus_traits::Bus;
+use vx_488::Bus;
 use vx_calls::DEVICE_MAX;
 use vx_exchange::put_success_record;
 use vx_io_traits::{Clock, Pause};

@@ -22,7 +22,7 @@ use crate::fleet::Passes;
 use crate::routes::{Count, renumber};
 use crate::{BusPass, Buses};
 use std::sync::Wait;
-use vx_bus_traits::Bus;
+use vx_488::Bus;
 use vx_calls::{CallRef, Role};
 use vx_io_traits::{Clock, Pause};
 use vx_session::{NoTools, Request, Worker, abort, answer_call};

@@ -17,7 +17,7 @@ use crate::leaving::leave_all;
 use crate::routes::place_of;
 use std::alloc::Global;
 use std::sync::Wait;
-use vx_bus_traits::Bus;
+use vx_488::Bus;
 use vx_calls::Role;
 use vx_core::Connect;
 use vx_io_traits::{Clock, Pause};

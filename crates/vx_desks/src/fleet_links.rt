@@ -14,7 +14,7 @@ use crate::routes::{Count, fleet_law};
 use crate::{BusPass, Buses};
 use std::alloc::Global;
 use std::sync::Wait;
-use vx_bus_traits::Bus;
+use vx_488::Bus;
 use vx_calls::Role;
 use vx_io_traits::{Clock, Link, Pause};
 use vx_session::{Linked, Room, serve_link};

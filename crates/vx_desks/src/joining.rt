@@ -16,7 +16,7 @@ use crate::fleet::Passes;
 use crate::{BusPass, Buses};
 use std::alloc::Global;
 use std::sync::Wait;
-use vx_bus_traits::Bus;
+use vx_488::Bus;
 use vx_calls::Role;
 use vx_core::{Connect, Core};
 use vx_gate::{Gate, Pass};

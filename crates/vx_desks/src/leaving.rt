@@ -11,7 +11,7 @@ ghost use Rattle.vx_desks.specs.Holding.{four_of, AreIdle};
 use crate::fleet::Passes;
 use crate::{BusPass, Buses};
 use std::sync::Wait;
-use vx_bus_traits::Bus;
+use vx_488::Bus;
 use vx_session::leave;
 
 /// The connection of each bus goes.

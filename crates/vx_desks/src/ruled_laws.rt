@@ -1,7 +1,7 @@
 //! The laws that a guarded session stands on.
 ghost use Rattle.vx_desks.specs.RuledLaws.{GuardLaws};
 
-use vx_bus_traits::Bus;
+use vx_488::Bus;
 use vx_group::{claims_law, links_law, owned_law};
 use vx_policy::{replies_read, texts_name};
 use vx_session::called_law;

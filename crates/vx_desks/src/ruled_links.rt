@@ -12,7 +12,7 @@ use crate::ruled_laws::guard_laws;
 use crate::ruled_sessions::{GuardEnd, GuardRoom, guard_end};
 use std::alloc::Global;
 use std::sync::Wait;
-use vx_bus_traits::Bus;
+use vx_488::Bus;
 use vx_calls::Role;
 use vx_core::Core;
 use vx_door::Peered;

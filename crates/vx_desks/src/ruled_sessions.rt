@@ -17,7 +17,7 @@ use crate::ruled_laws::guard_laws;
 use std::alloc::Global;
 use std::marker::Model;
 use std::sync::Wait;
-use vx_bus_traits::Bus;
+use vx_488::Bus;
 use vx_calls::Role;
 use vx_core::Core;
 use vx_door::Peered;

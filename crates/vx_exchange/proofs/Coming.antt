@@ -1,9 +1,9 @@
 -- A call that comes and its first poll, at one moment.
 use Rattle.std.proofs.Common.{◌≡◌, ℕ, max, List, [], ◌∷◌, Some, subst, arith}
 use Rattle.vx_calls.specs.Call.{Call}
-use Rattle.vx_bus_traits.specs.Steps.{Told, Cut}
-use Rattle.vx_bus_traits.specs.Walks.{Walk}
-use Rattle.vx_bus_traits.specs.declared.bus.Bus.{Ghosts}
+use Rattle.vx_488.specs.Steps.{Told, Cut}
+use Rattle.vx_488.specs.Walks.{Walk}
+use Rattle.vx_488.specs.declared.bus.Bus.{Ghosts}
 use Rattle.vx_flow.specs.Event.{Arrive}
 use Rattle.vx_flow.specs.InterleavedStep.{interleaved_step}
 use Rattle.vx_core.specs.CoreState.{CoreState}

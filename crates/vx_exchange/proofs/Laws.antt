@@ -7,7 +7,7 @@ use Rattle.vx_calls.specs.declared.calls.CallRef.TheVariants as seen
 use Rattle.vx_calls.specs.declared.codes.ErrorCode.{ErrorCode}
 use Rattle.vx_calls.specs.Call.{Call, call_shown}
 use Rattle.vx_calls.specs.Reply.{Reply}
-use Rattle.vx_bus_traits.specs.declared.bus.Bus.{Ghosts}
+use Rattle.vx_488.specs.declared.bus.Bus.{Ghosts}
 use Rattle.vx_rules.specs.AtomicStep.{arrived}
 use Rattle.vx_rules.proofs.Laws.Rows.{pending-put}
 use Rattle.vx_rules.specs.State.{pending_at}

@@ -3,7 +3,7 @@ use Rattle.std.proofs.Common.{◌≡◌, ℕ, max, List, ap, ◌∙◌, subst}
 use Rattle.vx_calls.specs.declared.replies.ReplyRef.{ReplyRef}
 use Rattle.vx_calls.specs.declared.codes.ErrorCode.{ErrorCode}
 use Rattle.vx_calls.specs.Reply.{Reply, reply_shown}
-use Rattle.vx_bus_traits.specs.declared.bus.Bus.{Ghosts}
+use Rattle.vx_488.specs.declared.bus.Bus.{Ghosts}
 use Rattle.vx_flow.specs.Poll.{Ending, Answered, Waited, Dialed}
 use Rattle.vx_core.specs.CoreState.{CoreState}
 use Rattle.vx_flow.specs.declared.progress.Why.{Why}

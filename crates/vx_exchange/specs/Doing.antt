@@ -7,9 +7,9 @@ use Rattle.vx_calls.specs.declared.codes.ErrorCode.TheVariants as code
 use Rattle.vx_calls.specs.Call.{Call}
 use Rattle.vx_calls.specs.Reply.{Reply}
 use Rattle.vx_calls.specs.Reply as reply
-use Rattle.vx_bus_traits.specs.Steps.{Told, Cut}
-use Rattle.vx_bus_traits.specs.Walks.{Walk}
-use Rattle.vx_bus_traits.specs.declared.bus.Bus.{Ghosts}
+use Rattle.vx_488.specs.Steps.{Told, Cut}
+use Rattle.vx_488.specs.Walks.{Walk}
+use Rattle.vx_488.specs.declared.bus.Bus.{Ghosts}
 use Rattle.vx_rules.specs.SrqState.{channel_at}
 use Rattle.vx_flow.specs.Event.{Arrive, Answer, Abort}
 use Rattle.vx_flow.specs.InterleavedStep.{interleaved_step}

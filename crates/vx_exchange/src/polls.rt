@@ -12,7 +12,7 @@ ghost use Rattle.vx_exchange.specs.Doing.{reply_error, Came, Settles, Aborts};
 ghost use Rattle.vx_exchange.specs.Doing as doing;
 
 use crate::record::put_success_record;
-use vx_bus_traits::Bus;
+use vx_488::Bus;
 use vx_calls::{CallRef, ErrorCode, ReplyRef};
 use vx_core::{Core, Polled, Why};
 

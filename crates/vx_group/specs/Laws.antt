@@ -4,7 +4,7 @@ use Rattle.std.specs.List.{All}
 use Rattle.vx_calls.specs.declared.limits.TheConstants.{LINK_MAX, LINK_LAST}
 use Rattle.vx_gate.specs.declared.views.Logged.{Logged}
 use Rattle.vx_gate.specs.History.{groups, made_by, Lawful}
-use Rattle.vx_bus_traits.specs.Steps.{Step}
+use Rattle.vx_488.specs.Steps.{Step}
 use Rattle.vx_rules.specs.Lists.{along}
 use Rattle.vx_flow.specs.Event.{Event}
 use Rattle.vx_flow.specs.InterleavedState.{InterleavedState}

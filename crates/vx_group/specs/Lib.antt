@@ -4,7 +4,7 @@ pub mod MadeLinks
 pub mod Owning
 pub mod Laws
 pub use Rattle.vx_calls.specs.Call
-pub use Rattle.vx_bus_traits.specs.Steps
+pub use Rattle.vx_488.specs.Steps
 pub use Rattle.vx_rules.specs.Lists
 pub use Rattle.vx_gate.specs.History
 pub use Rattle.vx_flow.specs.Event

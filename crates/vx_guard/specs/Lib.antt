@@ -6,7 +6,7 @@ pub use Rattle.vx_door.specs.Going
 pub use Rattle.vx_door.specs.Opening
 pub use Rattle.vx_io_traits.specs.Faults
 pub use Rattle.vx_gate.specs.PassView
-pub use Rattle.vx_bus_traits.specs.Means
+pub use Rattle.vx_488.specs.Means
 pub use Rattle.vx_lone.specs.Lone
 pub use Rattle.vx_group.specs.Groups
 pub use Rattle.vx_text.specs.Ends

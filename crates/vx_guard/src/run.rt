@@ -1,7 +1,7 @@
 //! All that the program `vxguard` does: the words, the rules, the port, the links that come there, the lines that are printed, and the
 //! status.
 ghost use Rattle.std.specs.Prelude.{◌≡◌, [], map, string_bytes, vec_len};
-ghost use Rattle.vx_bus_traits.specs.Means.{first_means};
+ghost use Rattle.vx_488.specs.Means.{first_means};
 ghost use Rattle.vx_peers.specs.Asked.{IsPeerInRange};
 ghost use Rattle.vx_text.specs.Ends.{sink_shown};
 ghost use Rattle.vx_session.specs.Origin.{origin};
@@ -16,7 +16,7 @@ use crate::status::GuardStatus;
 use std::alloc::Global;
 use std::marker::Brand;
 use std::sync::Wait;
-use vx_bus_traits::Bus;
+use vx_488::Bus;
 use vx_core::Core;
 use vx_desks::{Gateway, GuardRoom, Kit};
 use vx_door::{Door, Peered};

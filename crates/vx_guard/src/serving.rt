@@ -3,7 +3,7 @@ ghost use Rattle.std.specs.Prelude.{◌≡◌, ◌||◌};
 ghost use Rattle.vx_guard.specs.Peers.{is_note_fault};
 
 use std::sync::Wait;
-use vx_bus_traits::Bus;
+use vx_488::Bus;
 use vx_core::Core;
 use vx_desks::{Gateway, GuardEnd, Guarded, Kit, guarded_link};
 use vx_door::{Door, Peered};

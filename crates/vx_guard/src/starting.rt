@@ -1,13 +1,13 @@
 //! The gateway of a guard, behind its gate.
 ghost use Rattle.std.specs.Prelude.{◌≡◌, [], IfSome, vec_len};
-ghost use Rattle.vx_bus_traits.specs.Means.{first_means};
+ghost use Rattle.vx_488.specs.Means.{first_means};
 ghost use Rattle.vx_gate.specs.Gates.{gate_of, first_of};
 ghost use Rattle.vx_guard.specs.Peers.{CanServe};
 ghost use Rattle.vx_guard.specs.Outcome.{IsNew};
 ghost use Rattle.vx_lone.specs.Lone.{handed};
 
 use std::alloc::Global;
-use vx_bus_traits::Bus;
+use vx_488::Bus;
 use vx_core::Core;
 use vx_gate::{Gate, Pass};
 use vx_inst::Instrument;

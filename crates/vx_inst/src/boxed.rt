@@ -1,7 +1,7 @@
 //! An instrument in a box, whatever its kind.
 
 use super::Instrument;
-use vx_bus_traits::ManyGot;
+use vx_488::ManyGot;
 
 /// A boxed instrument that may cross threads is an instrument: each call goes to the one in the box, and it is seen as that
 /// one is seen.

@@ -8,8 +8,8 @@ mod done;
 
 ghost use Rattle.std.specs.Prelude.{◌≡◌, ◌<◌, ◌≤◌, ℕ, true, false, List, [], length, take, drop};
 ghost use Rattle.vx_488.specs.declared.transfers.Transfer.TheVariants.{Put};
-ghost use Rattle.vx_bus_traits.specs.Bursts.{ended, gets_steps, StopsAt};
-ghost use Rattle.vx_bus_traits.specs.Steps.{Path};
+ghost use Rattle.vx_488.specs.Bursts.{ended, gets_steps, StopsAt};
+ghost use Rattle.vx_488.specs.Steps.{Path};
 ghost use Rattle.vx_inst.specs.declared.done.Done.TheVariants.{Took, Gave, Polled, Cleared, Triggered, ToLocal, StatusSet, Told};
 ghost use Rattle.vx_inst.specs.Behavior.{Behavior, seen, after};
 ghost use Rattle.vx_inst.specs.Laws.{takes_byte, gives_byte, IsInstSound, InstTakes, InstGives, status_byte, IsInstPolled, IsCleared, IsTriggered, IsInstTold, with_status};
@@ -17,7 +17,7 @@ ghost use Rattle.vx_inst.specs.Runs.{TakesRun, GivesNext};
 
 pub use body::Body;
 pub use done::Done;
-use vx_bus_traits::{ManyGot, Stop};
+use vx_488::{ManyGot, Stop};
 
 /// The most bytes that an instrument keeps of a message, and the most that it has to give.
 pub const INST_MAX: usize = 262144;

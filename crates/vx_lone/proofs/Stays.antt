@@ -6,8 +6,8 @@ use Rattle.vx_488.specs.declared.wire.Wire.{Wire}
 use Rattle.vx_488.specs.declared.commands.Command.{Command}
 use Rattle.vx_488.specs.declared.commands.Command.TheVariants as command
 use Rattle.vx_488.specs.Command.{command_of}
-use Rattle.vx_bus_traits.specs.Steps.{Step, Went, Held, Failed, Told, Cut}
-use Rattle.vx_bus_traits.specs.Walks.{Walk}
+use Rattle.vx_488.specs.Steps.{Step, Went, Held, Failed, Told, Cut}
+use Rattle.vx_488.specs.Walks.{Walk}
 use Rattle.vx_inst.specs.View.{View}
 use Rattle.vx_inst.specs.declared.done.Done.{Done}
 use Rattle.vx_inst.specs.declared.done.Done.TheVariants as done

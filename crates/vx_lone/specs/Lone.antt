@@ -2,8 +2,8 @@
 -- A simulated bus with one instrument of a rack on it, at primary address 5, and nothing else.
 use Rattle.std.specs.Prelude.{◌≡◌, ◌⊎◌, ℕ, List, [], ◌∷◌, map, None}
 use Rattle.vx_488.specs.declared.transfers.Addr.{Addr}
-use Rattle.vx_bus_traits.specs.Steps.{Step}
-use Rattle.vx_bus_traits.specs.declared.bus.Bus.{Ghosts}
+use Rattle.vx_488.specs.Steps.{Step}
+use Rattle.vx_488.specs.declared.bus.Bus.{Ghosts}
 use Rattle.vx_inst.specs.Behavior.{Behavior}
 use Rattle.vx_rack.specs.declared.Spare.{Spare}
 use Rattle.vx_sim.specs.Bench.{some_asks, some_refuses}

@@ -1,7 +1,7 @@
 //! The bus.
 
 ghost use Rattle.std.specs.Prelude.{◌≡◌, List, [], IfOk};
-ghost use Rattle.vx_bus_traits.specs.Means.{first_means};
+ghost use Rattle.vx_488.specs.Means.{first_means};
 ghost use Rattle.vx_sim.specs.Attaching.{IsAttached};
 ghost use Rattle.vx_sim.specs.Occupants.{Seated, Boxed, handed_in};
 ghost use Rattle.vx_sim.specs.SimState.{first_state};
@@ -9,8 +9,7 @@ ghost use Rattle.vx_lone.specs.Lone.{place, IsOneOf};
 
 use std::alloc::Global;
 use std::marker::{Brand, Model, PhantomData};
-use vx_488::{Addr, Line, Transfer, Wire};
-use vx_bus_traits::{Bus, GetOut, Many, ManyGot, Move};
+use vx_488::{Addr, Bus, GetOut, Line, Many, ManyGot, Move, Transfer, Wire};
 use vx_inst::Instrument;
 use vx_sim::{NoMemory, SimBus};
 

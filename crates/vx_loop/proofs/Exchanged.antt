@@ -43,7 +43,7 @@ use Rattle.vx_client.specs.Exchange.{Exchange, Replied, KeepsReply, ClientAsks a
 use Rattle.vx_client.proofs.Laws.Lengths.{arguments-short}
 use Rattle.vx_client.proofs.Laws.Meanings.{success-meaning}
 use Rattle.vx_flow.specs.Event.{Event, Down}
-use Rattle.vx_bus_traits.specs.Steps.{Step, Cut}
+use Rattle.vx_488.specs.Steps.{Step, Cut}
 use Rattle.vx_loop.specs.Gateway.{Gateway, gateway_of}
 use Rattle.vx_flow.specs.Frames.{moves_by}
 use Rattle.vx_loop.specs.LoopState.{ServedState, LoopState, IsIdle}

@@ -8,7 +8,7 @@ use Rattle.std.proofs.lemmas.Option.{none-some}
 use Rattle.std.proofs.lemmas.Grind.{flat_map-append, common_steps}
 use Rattle.std.proofs.lemmas.List.{length-append, length-take, take_all, take-append-drop, drop-take}
 use Rattle.std.proofs.lemmas.List.Folds.{list_all-append}
-use Rattle.vx_bus_traits.specs.Steps.{Step, Told, Cut}
+use Rattle.vx_488.specs.Steps.{Step, Told, Cut}
 use Rattle.vx_calls.specs.declared.calls.Role.TheVariants as role
 use Rattle.vx_calls.specs.declared.limits.TheConstants.{RECORD_MAX}
 use Rattle.vx_record.specs.declared.Feed.TheVariants as feed

@@ -6,7 +6,7 @@ use Rattle.std.proofs.lemmas.Option.{none-some}
 use Rattle.vx_calls.specs.declared.calls.Role.TheVariants as role
 use Rattle.vx_calls.specs.declared.limits.TheConstants.{RECORD_MAX}
 use Rattle.vx_record.specs.Buffer.{BufState, fresh}
-use Rattle.vx_bus_traits.specs.Steps.{Cut}
+use Rattle.vx_488.specs.Steps.{Cut}
 use Rattle.vx_sim.specs.SimState.{SimState}
 use Rattle.vx_rules.specs.SrqState as srq_state
 use Rattle.vx_rules.specs.Lists.{along}

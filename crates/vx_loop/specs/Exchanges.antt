@@ -2,7 +2,7 @@
 -- What is exchanged over a link to a gateway: records that come, each with what it makes in the gateway and its reply.
 use Rattle.std.specs.Prelude.{◌≡◌, ◌≢◌, ◌≤◌, ℕ, ◌+◌, ◌-◌, Bool, true, false, ◌==◌, List, [], ◌∷◌, ◌++◌, length, take, Option, Some, None}
 use Rattle.std.specs.List.{list_all, flat_map}
-use Rattle.vx_bus_traits.specs.Steps.{Step}
+use Rattle.vx_488.specs.Steps.{Step}
 use Rattle.vx_calls.specs.declared.calls.Role.TheVariants as role
 use Rattle.vx_calls.specs.declared.limits.TheConstants.{RECORD_MAX}
 use Rattle.vx_calls.specs.Call.{Call}

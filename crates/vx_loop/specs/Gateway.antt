@@ -2,8 +2,8 @@
 -- The gateway of a link: its state between interleaved events, and its simulated bus.
 use Rattle.std.specs.Prelude.{◌≡◌, ℕ, zero, suc, ◌+◌, List, [], ◌∷◌, Some}
 use Rattle.std.specs.List.{flat_map}
-use Rattle.vx_bus_traits.specs.Steps.{Step, Told}
-use Rattle.vx_bus_traits.specs.Walks.{Walk}
+use Rattle.vx_488.specs.Steps.{Step, Told}
+use Rattle.vx_488.specs.Walks.{Walk}
 use Rattle.vx_sim.specs.SimState.{SimState, Through}
 use Rattle.vx_rules.specs.Lists.{along}
 use Rattle.vx_flow.specs.Event.{Event}

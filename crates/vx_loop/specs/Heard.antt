@@ -5,7 +5,7 @@ use Rattle.std.specs.List.{flat_map}
 use Rattle.vx_calls.specs.declared.targets.Target.TheVariants.{Device}
 use Rattle.vx_488.specs.declared.transfers.Addr.{Addr}
 use Rattle.vx_488.specs.Heard.{Byte, heard}
-use Rattle.vx_bus_traits.specs.Steps.{Step}
+use Rattle.vx_488.specs.Steps.{Step}
 use Rattle.vx_rules.specs.Table.{Link}
 use Rattle.vx_rules.specs.State.{link_of}
 use Rattle.vx_flow.specs.Event.{Event}

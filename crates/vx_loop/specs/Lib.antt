@@ -12,7 +12,7 @@ pub use Rattle.vx_io_traits.specs.Stands
 pub use Rattle.vx_calls.specs.Call
 pub use Rattle.vx_calls.specs.Reply
 pub use Rattle.vx_record.specs.Buffer
-pub use Rattle.vx_bus_traits.specs.Steps
+pub use Rattle.vx_488.specs.Steps
 pub use Rattle.vx_sim.specs.SimState
 pub use Rattle.vx_exchange.specs.Meaning
 pub use Rattle.vx_rules.specs.Calls

@@ -1,7 +1,7 @@
 -- To be believed.
 -- What contracts see of a link to connection 1 of a gateway.
 use Rattle.std.specs.Prelude.{◌≡◌, ℕ, Bool, List, [], ◌∷◌, Option, None}
-use Rattle.vx_bus_traits.specs.Steps.{Cut}
+use Rattle.vx_488.specs.Steps.{Cut}
 use Rattle.vx_calls.specs.declared.calls.Role.TheVariants as role
 use Rattle.vx_calls.specs.declared.limits.TheConstants.{RECORD_MAX}
 use Rattle.vx_record.specs.Buffer.{BufState, fresh}

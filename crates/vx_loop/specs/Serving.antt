@@ -2,7 +2,7 @@
 -- What serving a record, and polling its call again, leave of a gateway and of what is given.
 use Rattle.std.specs.Prelude.{◌≡◌, ◌≤◌, ℕ, Bool, true, is_some, List, [], ◌∷◌, ◌++◌, length, Option, Some, None, ◌⊎◌}
 use Rattle.std.specs.List.{list_all}
-use Rattle.vx_bus_traits.specs.Steps.{Step, Told, Cut}
+use Rattle.vx_488.specs.Steps.{Step, Told, Cut}
 use Rattle.vx_calls.specs.declared.calls.Role.TheVariants as role
 use Rattle.vx_calls.specs.Call.{Call}
 use Rattle.vx_calls.specs.Reply.{Reply}

@@ -1,7 +1,7 @@
 //! A client over a gateway of its own. A link or a client for which there is no memory hands back what it was to stand on, and is made
 //! of that once more.
 ghost use Rattle.std.specs.Prelude.{◌≡◌, IfSome};
-ghost use Rattle.vx_bus_traits.specs.Means.{first_means};
+ghost use Rattle.vx_488.specs.Means.{first_means};
 ghost use Rattle.vx_loop.specs.LoopState.{IsUnconnected};
 
 use crate::status::Status;

@@ -12,7 +12,7 @@ use std::alloc::Global;
 use std::rt::Clock as SystemClock;
 use std::sync::Wait;
 use std::thread::Threads;
-use vx_bus_traits::Bus;
+use vx_488::Bus;
 use vx_buses::{BusPass, Buses, start_buses};
 use vx_inst::Instrument;
 use vx_io::{Accepted, Listen, TcpPort};

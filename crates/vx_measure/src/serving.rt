@@ -8,7 +8,7 @@ use std::alloc::Global;
 use std::rt::Clock as SystemClock;
 use std::sync::Wait;
 use std::thread::{self, Threads};
-use vx_bus_traits::Bus;
+use vx_488::Bus;
 use vx_buses::{BusPass, Buses, LinkServer, many_link};
 use vx_io::{StdClock, StdPause, TcpLink};
 use vx_session::{End, Linked, Room};

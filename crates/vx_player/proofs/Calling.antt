@@ -8,10 +8,10 @@ use Rattle.std.proofs.lemmas.Bool.{cond-true, cond-false, false≢true}
 use Rattle.vx_calls.specs.declared.calls.Role.{Role}
 use Rattle.vx_calls.specs.declared.calls.Role.TheVariants as role
 use Rattle.vx_calls.specs.Reply as reply
-use Rattle.vx_bus_traits.specs.Steps.{Told, Cut}
+use Rattle.vx_488.specs.Steps.{Told, Cut}
 use Rattle.vx_sim.specs.Bench.{some_asks}
 use Rattle.vx_sim.specs.SimState.{SimState, Through}
-use Rattle.vx_bus_traits.specs.Walks.{Walk}
+use Rattle.vx_488.specs.Walks.{Walk}
 use Rattle.vx_script.specs.Command.{Command, At, Poll, Sample, Take, Dial}
 use Rattle.vx_script.specs.declared.Cause.TheVariants as cause
 use Rattle.vx_trace.specs.Output.{Output, Srq}

@@ -9,7 +9,7 @@ use Rattle.vx_record.specs.declared.Fed.{Fed}
 use Rattle.vx_record.specs.declared.Feed.{Feed}
 use Rattle.vx_record.proofs.Laws.{fed-limit}
 use Rattle.vx_script.specs.declared.Cause.TheVariants as cause
-use Rattle.vx_bus_traits.specs.Steps.{Cut}
+use Rattle.vx_488.specs.Steps.{Cut}
 use Rattle.vx_sim.specs.SimState.{SimState}
 use Rattle.vx_flow.specs.Event as event
 use Rattle.vx_core.specs.CoreState.{CoreState}

@@ -17,7 +17,7 @@ use Rattle.vx_488.proofs.Laws.AddressCommands.{listen_byte, talk_byte, secondary
 use Rattle.vx_plan.specs.Plan.{Slot, Off, stand}
 use Rattle.vx_plan.specs.Tasks.{unl, mta, listener, ended_poll, puts, just, write_plan, IsTargetPlain, IsSecondaryPlain}
 use Rattle.vx_rules.specs.Table.{Link}
-use Rattle.vx_bus_traits.specs.Steps.{Step, Went, Told, Cut}
+use Rattle.vx_488.specs.Steps.{Step, Went, Told, Cut}
 use Rattle.vx_sim.specs.Bench.{some_asks, some_refuses}
 use Rattle.vx_sim.specs.SimState.{Through}
 use Rattle.vx_sim.specs.Laws.{is_quiet, only_puts, TakesAll}

@@ -10,7 +10,7 @@ use Rattle.vx_lemmas.proofs.Laws.Conditions.{same_bytes}
 use Rattle.vx_488.specs.declared.transfers.Addr.{Addr}
 use Rattle.vx_488.specs.declared.wire.Wire.{Wire}
 use Rattle.vx_488.specs.Wire.{first_wire}
-use Rattle.vx_bus_traits.specs.Steps.{Cut}
+use Rattle.vx_488.specs.Steps.{Cut}
 use Rattle.vx_script.specs.declared.Cause.{Cause}
 use Rattle.vx_script.specs.declared.Cause.TheVariants as cause
 use Rattle.vx_script.specs.Command.{Plug}

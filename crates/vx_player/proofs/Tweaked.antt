@@ -6,8 +6,8 @@ use Rattle.std.specs.List.{list_any}
 use Rattle.std.specs.Str.{bytes_eq}
 use Rattle.vx_488.specs.declared.transfers.Addr.{Addr}
 use Rattle.vx_488.specs.declared.wire.Wire.{Wire}
-use Rattle.vx_bus_traits.specs.Means.{Means}
-use Rattle.vx_bus_traits.specs.Steps.{Cut}
+use Rattle.vx_488.specs.Means.{Means}
+use Rattle.vx_488.specs.Steps.{Cut}
 use Rattle.vx_rack.specs.declared.Spare.{Spare}
 use Rattle.vx_table.specs.declared.TableErr.{TableErr}
 use Rattle.vx_table.specs.Table.{Rule, TableState, fresh_table}

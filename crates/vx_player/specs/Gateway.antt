@@ -1,8 +1,8 @@
 -- To be believed.
 -- The gateway of a play: its state between interleaved events, and its bus with the instruments on it.
 use Rattle.std.specs.Prelude.{◌≡◌, ℕ, List, Some}
-use Rattle.vx_bus_traits.specs.Steps.{Step}
-use Rattle.vx_bus_traits.specs.Walks.{Walk}
+use Rattle.vx_488.specs.Steps.{Step}
+use Rattle.vx_488.specs.Walks.{Walk}
 use Rattle.vx_sim.specs.SimState.{SimState, first_state, Through}
 use Rattle.vx_rules.specs.Lists.{along}
 use Rattle.vx_flow.specs.Event.{Event}

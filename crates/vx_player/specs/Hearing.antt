@@ -6,7 +6,7 @@ use Rattle.vx_calls.specs.Call.{Call}
 use Rattle.vx_calls.specs.Call as call
 use Rattle.vx_488.specs.declared.transfers.Transfer.{Transfer}
 use Rattle.vx_488.specs.Heard.{heard}
-use Rattle.vx_bus_traits.specs.Steps.{Told, Cut}
+use Rattle.vx_488.specs.Steps.{Told, Cut}
 use Rattle.vx_sim.specs.SimState.{SimState}
 use Rattle.vx_sim.specs.Laws.{TakesAll}
 use Rattle.vx_player.specs.Gateway.{BusGoes}

@@ -26,8 +26,8 @@ pub use Rattle.vx_record.specs.Buffer
 pub use Rattle.vx_record.specs.Records
 pub use Rattle.vx_488.specs.Address
 pub use Rattle.vx_488.specs.Heard
-pub use Rattle.vx_bus_traits.specs.Steps
-pub use Rattle.vx_bus_traits.specs.Walks
+pub use Rattle.vx_488.specs.Steps
+pub use Rattle.vx_488.specs.Walks
 pub use Rattle.vx_plan.specs.Plan
 pub use Rattle.vx_sim.specs.Attaching
 pub use Rattle.vx_sim.specs.Bench

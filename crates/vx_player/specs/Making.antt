@@ -7,7 +7,7 @@ use Rattle.vx_calls.specs.Call.{Call}
 use Rattle.vx_calls.specs.Reply as reply
 use Rattle.vx_script.specs.Command.{Command, Up, In, Down, At, Poll, Sample, Take, Dial, Inst, Plug, Pull, Set, Fail}
 use Rattle.vx_trace.specs.Output.{Output, Out, IrqClosed, GoneDown, GoneJunk, GoneLong}
-use Rattle.vx_bus_traits.specs.Steps.{Told, Cut}
+use Rattle.vx_488.specs.Steps.{Told, Cut}
 use Rattle.vx_sim.specs.Bench.{some_asks, some_refuses}
 use Rattle.vx_sim.specs.SimState.{SimState, Through}
 use Rattle.vx_sim.specs.Attaching.{without_place, IsSet}

@@ -4,8 +4,7 @@ ghost use Rattle.vx_488.specs.Address.{is_bus_address};
 ghost use Rattle.vx_sim.specs.Occupants.{Table, Boxed};
 
 use std::alloc::Global;
-use vx_488::Addr;
-use vx_bus_traits::Tweak;
+use vx_488::{Addr, Tweak};
 use vx_inst::Instrument;
 use vx_sim::{Attach, SimBus};
 use vx_table::TableInst;

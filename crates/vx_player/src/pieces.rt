@@ -5,7 +5,7 @@ ghost use Rattle.std.specs.BTreeMap.{get};
 ghost use Rattle.vx_calls.specs.declared.limits.TheConstants.{RECORD_MAX};
 ghost use Rattle.vx_record.specs.Buffer.{fresh};
 ghost use Rattle.vx_player.specs.Feeding.{FeedsTo, AnswersRecord, FeedsPiece, StopsPiece};
-ghost use Rattle.vx_bus_traits.specs.Steps.{Cut};
+ghost use Rattle.vx_488.specs.Steps.{Cut};
 ghost use Rattle.vx_rules.specs.State.{connection_at, lives_as, role_at, pending_at};
 ghost use Rattle.vx_flow.specs.Event as event;
 ghost use Rattle.vx_exchange.specs.declared.record.TheConstants.{REPLY_ROOM};

@@ -1,7 +1,7 @@
 //! All that a server does whose bus is behind another box.
 ghost use Rattle.std.specs.Prelude.{◌≡◌, ◌≤◌, length, map, string_bytes, IfOk, IfErr, OnOk};
 ghost use Rattle.vx_calls.specs.declared.limits.TheConstants.{DEVICE_MAX};
-ghost use Rattle.vx_bus_traits.specs.Means.{first_means};
+ghost use Rattle.vx_488.specs.Means.{first_means};
 ghost use Rattle.vx_text.specs.Ends.{source_shown, sink_shown};
 ghost use Rattle.vx_startup.specs.Running.{net_shown};
 ghost use Rattle.vx_startup.specs.Meant.{ServerAnswers, IsServerInRange};

@@ -12,7 +12,7 @@ ghost use Rattle.vx_startup.specs.Outcome.{ServerEnds, ServerEndsSo, IsDone};
 use crossbeam_channel::Sender;
 use std::alloc::Global;
 use std::sync::Wait;
-use vx_bus_traits::Bus;
+use vx_488::Bus;
 use vx_inst::Instrument;
 use vx_io_traits::{Net, Sink, Source, Spawner, Streams};
 use vx_rack::Spare;

@@ -6,10 +6,10 @@ use Rattle.std.proofs.lemmas.Option.{none-some}
 use Rattle.vx_calls.specs.declared.calls.Role.{Role}
 use Rattle.vx_calls.specs.Call.{Call}
 use Rattle.vx_488.specs.declared.transfers.Transfer.{Transfer}
-use Rattle.vx_bus_traits.specs.Steps.{Step, Told, Cut}
-use Rattle.vx_bus_traits.specs.Walks.{Walk, StepsTo}
-use Rattle.vx_bus_traits.proofs.Laws.Puts.{path-append}
-use Rattle.vx_bus_traits.specs.declared.bus.Bus.{Ghosts}
+use Rattle.vx_488.specs.Steps.{Step, Told, Cut}
+use Rattle.vx_488.specs.Walks.{Walk, StepsTo}
+use Rattle.vx_488.proofs.Laws.Puts.{path-append}
+use Rattle.vx_488.specs.declared.bus.Bus.{Ghosts}
 use Rattle.vx_rules.specs.SrqState.{Given, Gone}
 use Rattle.vx_rules.specs.Lists.{along}
 use Rattle.vx_rules.proofs.Laws.Lists.{along-append}

@@ -9,7 +9,7 @@ use Rattle.vx_gate.specs.PassView.{PassView}
 use Rattle.vx_gate.specs.Turning.{Turned}
 use Rattle.vx_flow.specs.Event.{Event}
 use Rattle.vx_flow.specs.InterleavedState.{InterleavedState}
-use Rattle.vx_bus_traits.specs.Steps.{Step}
+use Rattle.vx_488.specs.Steps.{Step}
 use Rattle.vx_core.specs.CoreState.{CoreState}
 use Rattle.vx_core.specs.Standing.{Became}
 use Rattle.vx_group.specs.Groups.{Group, last_moment, now_of, StandsFor}

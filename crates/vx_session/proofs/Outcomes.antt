@@ -7,7 +7,7 @@ use Rattle.vx_calls.specs.declared.calls.Role.{Role}
 use Rattle.vx_gate.specs.declared.views.Logged.{Logged}
 use Rattle.vx_gate.specs.History.{groups}
 use Rattle.vx_gate.specs.PassView.{PassView}
-use Rattle.vx_bus_traits.specs.Steps.{Cut}
+use Rattle.vx_488.specs.Steps.{Cut}
 use Rattle.vx_rules.specs.SrqState.{Channel, Given, channel_at}
 use Rattle.vx_rules.specs.State.{Connection, connection_at}
 use Rattle.vx_state.specs.declared.tables.Connect.{Connect}

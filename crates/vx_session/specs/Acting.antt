@@ -5,7 +5,7 @@ use Rattle.vx_calls.specs.declared.calls.Role.{Role}
 use Rattle.vx_calls.specs.Call.{Call}
 use Rattle.vx_488.specs.declared.transfers.Transfer.{Transfer}
 use Rattle.vx_rules.specs.SrqState.{Given, Gone}
-use Rattle.vx_bus_traits.specs.Steps.{Step, Told, Cut}
+use Rattle.vx_488.specs.Steps.{Step, Told, Cut}
 use Rattle.vx_rules.specs.Lists.{along}
 use Rattle.vx_rules.specs.State.{Connection, Pending, connection_at, pending_at, has_room}
 use Rattle.vx_state.specs.declared.tables.Connect.{Connect}

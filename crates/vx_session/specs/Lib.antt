@@ -24,7 +24,7 @@ pub use Rattle.vx_core.specs.Groups
 pub use Rattle.vx_stream.specs.Shown
 pub use Rattle.vx_calls.specs.Call
 pub use Rattle.vx_calls.specs.Reply
-pub use Rattle.vx_bus_traits.specs.Means
+pub use Rattle.vx_488.specs.Means
 pub use Rattle.vx_rules.specs.SrqState
 pub use Rattle.vx_rules.specs.Dials
 pub use Rattle.vx_rules.specs.Calls

@@ -1,6 +1,6 @@
 -- To be believed.
 -- What a gateway's histories begin with.
-use Rattle.vx_bus_traits.specs.declared.bus.Bus.{Ghosts}
+use Rattle.vx_488.specs.declared.bus.Bus.{Ghosts}
 use Rattle.vx_core.specs.CoreState.{CoreState}
 
 -- what a bus names of itself, and the core, with its bus, that the gate was started over

@@ -6,9 +6,9 @@ use Rattle.vx_calls.specs.Call.{Call}
 use Rattle.vx_calls.specs.declared.calls.Role.TheVariants as role
 use Rattle.vx_calls.specs.declared.codes.ErrorCode.{ErrorCode}
 use Rattle.vx_calls.specs.Reply as reply
-use Rattle.vx_bus_traits.specs.Steps.{Step, Told, Cut}
-use Rattle.vx_bus_traits.specs.Walks.{Walk}
-use Rattle.vx_bus_traits.specs.declared.bus.Bus.{Ghosts}
+use Rattle.vx_488.specs.Steps.{Step, Told, Cut}
+use Rattle.vx_488.specs.Walks.{Walk}
+use Rattle.vx_488.specs.declared.bus.Bus.{Ghosts}
 use Rattle.vx_gate.specs.History.{groups}
 use Rattle.vx_rules.specs.Dials.{dials_to}
 use Rattle.vx_flow.specs.Event.{Event, Answer, Arrive}

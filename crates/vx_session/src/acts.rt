@@ -7,8 +7,8 @@ ghost use Rattle.vx_srq.specs.Shown.{given_shown};
 ghost use Rattle.vx_rules.specs.State.{connection_at, pending_at, is_idle, lives_as};
 ghost use Rattle.vx_rules.specs.AtomicStep.{may_wait};
 ghost use Rattle.vx_rules.specs.Calls.{IsShort};
-ghost use Rattle.vx_bus_traits.specs.Steps.{Told, Cut};
-ghost use Rattle.vx_bus_traits.specs.Walks.{Walk};
+ghost use Rattle.vx_488.specs.Steps.{Told, Cut};
+ghost use Rattle.vx_488.specs.Walks.{Walk};
 ghost use Rattle.vx_flow.specs.Event.{Down, Abort, Sample};
 ghost use Rattle.vx_flow.specs.InterleavedStep.{interleaved_step};
 ghost use Rattle.vx_exchange.specs.declared.record.TheConstants.{REPLY_ROOM};
@@ -19,7 +19,7 @@ ghost use Rattle.vx_session.specs.Acting.{Connects, poll_events, poll_steps, com
 ghost use Rattle.vx_session.specs.Parts.{settled_events};
 
 use std::alloc::Global;
-use vx_bus_traits::Bus;
+use vx_488::Bus;
 use vx_calls::{CallRef, Role, Taken};
 use vx_core::{Connect, Core, became_law};
 use vx_exchange::{Aborted, DialAnswered, PollEnd, abort, again, come, settle};

@@ -14,7 +14,7 @@ ghost use Rattle.vx_session.specs.Origin.{origin};
 
 use crate::turns::{Request, Worker, come, poll_again, settle};
 use std::sync::Wait;
-use vx_bus_traits::Bus;
+use vx_488::Bus;
 use vx_core::{Core, Why};
 use vx_exchange::PollEnd;
 use vx_gate::{Pass, Turns};

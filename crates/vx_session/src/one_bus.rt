@@ -10,7 +10,7 @@ use crate::desks::Desk;
 use crate::turns::{Request, Worker, abort, join, leave};
 use std::alloc::Global;
 use std::sync::Wait;
-use vx_bus_traits::Bus;
+use vx_488::Bus;
 use vx_calls::Role;
 use vx_core::{Connect, Core};
 use vx_gate::{Pass, Turns};

@@ -5,7 +5,7 @@ ghost use Rattle.vx_session.specs.Pumping.{Pumps};
 
 use crate::turns::take;
 use std::sync::Wait;
-use vx_bus_traits::Bus;
+use vx_488::Bus;
 use vx_calls::Taken;
 use vx_core::Core;
 use vx_exchange::{SRQ_ROOM, put_srq_record};

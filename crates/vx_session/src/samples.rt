@@ -5,7 +5,7 @@ ghost use Rattle.vx_session.specs.Origin.{origin};
 
 use crate::turns::sample;
 use std::sync::Wait;
-use vx_bus_traits::Bus;
+use vx_488::Bus;
 use vx_core::Core;
 use vx_gate::{Pass, Turns};
 use vx_io_traits::Clock;

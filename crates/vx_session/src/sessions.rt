@@ -22,7 +22,7 @@ use crate::turns::Worker;
 use std::alloc::Global;
 use std::marker::Model;
 use std::sync::Wait;
-use vx_bus_traits::Bus;
+use vx_488::Bus;
 use vx_calls::{RECORD_MAX, Role};
 use vx_core::Core;
 use vx_exchange::REPLY_ROOM;

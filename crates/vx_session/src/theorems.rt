@@ -6,7 +6,7 @@ ghost use Rattle.vx_session.specs.RoomLaws.{CountsLaw, FewLaw, RoomLaw};
 ghost use Rattle.vx_session.specs.LinkLaws.{CalledLinksLaw};
 ghost use Rattle.vx_session.specs.TurnLaws.{JoinedLaw, RefusedLaw, LeftLaw, ClearFirstLaw, ClearLaw, NeverFullLaw};
 
-use vx_bus_traits::Bus;
+use vx_488::Bus;
 use vx_group::phase_law;
 
 /// How many connections live behind a history, and which number comes next, by how many came up and went down in it. Where as

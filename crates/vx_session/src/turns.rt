@@ -13,7 +13,7 @@ ghost use Rattle.vx_session.specs.Origin.{origin};
 use crate::acts::{AbortLink, Again, Come, ConnectAs, Leave, SampleAt, Settle, TakeFrom};
 use std::alloc::Global;
 use std::sync::Wait;
-use vx_bus_traits::Bus;
+use vx_488::Bus;
 use vx_calls::{CallRef, Role, Taken};
 use vx_core::{Connect, Core};
 use vx_exchange::{Aborted, DialAnswered, PollEnd};

@@ -7,13 +7,13 @@ use Rattle.vx_488.specs.declared.transfers.Transfer.TheVariants.{Got}
 use Rattle.vx_488.specs.declared.wire.Wire.{Wire}
 use Rattle.vx_488.specs.Wire.{is_talking}
 use Rattle.vx_inst.specs.Laws.{gives_byte}
-use Rattle.vx_bus_traits.specs.declared.asks.Ask.TheVariants as ask
-use Rattle.vx_bus_traits.specs.Bursts.{ended, gets_steps, refused_get, is_end}
-use Rattle.vx_bus_traits.specs.declared.bursts.Stop.{Stop}
-use Rattle.vx_bus_traits.specs.declared.bursts.Stop.TheVariants as stop
-use Rattle.vx_bus_traits.specs.Means.{Means}
-use Rattle.vx_bus_traits.specs.Steps.{Step, Went, Held, Path}
-use Rattle.vx_bus_traits.specs.Walks.{Walk}
+use Rattle.vx_488.specs.declared.asks.Ask.TheVariants as ask
+use Rattle.vx_488.specs.Bursts.{ended, gets_steps, refused_get, is_end}
+use Rattle.vx_488.specs.declared.bursts.Stop.{Stop}
+use Rattle.vx_488.specs.declared.bursts.Stop.TheVariants as stop
+use Rattle.vx_488.specs.Means.{Means}
+use Rattle.vx_488.specs.Steps.{Step, Went, Held, Path}
+use Rattle.vx_488.specs.Walks.{Walk}
 use Rattle.vx_sim.specs.Attaching.{AreApart}
 use Rattle.vx_sim.specs.Occupants.{Placed, seen, GivesBy}
 use Rattle.vx_sim.specs.Bench.{talks, answers_get, can_answer, holds_get, BenchWhere, PlaceGives, TalkerGives}

@@ -2,7 +2,7 @@
 pub mod Hears
 use Rattle.std.proofs.Common.{◌≡◌, List, [], ◌∷◌, ◌++◌, map, ap}
 use Rattle.vx_488.specs.declared.transfers.Transfer.{Transfer}
-use Rattle.vx_bus_traits.specs.Steps.{Step, Went}
+use Rattle.vx_488.specs.Steps.{Step, Went}
 use Rattle.vx_sim.specs.Laws.{transfers}
 
 -- the transfers of steps that went, before steps without any

@@ -11,11 +11,11 @@ use Rattle.vx_488.specs.declared.transfers.Transfer.TheVariants.{Put}
 use Rattle.vx_488.specs.declared.wire.Wire.{Wire}
 use Rattle.vx_inst.specs.Laws.{takes_byte}
 use Rattle.vx_inst.proofs.Laws.Runs.{front-next, front-long}
-use Rattle.vx_bus_traits.specs.Steps.{Went}
-use Rattle.vx_bus_traits.specs.Walks.{Walk}
-use Rattle.vx_bus_traits.specs.Bursts.{ended}
-use Rattle.vx_bus_traits.specs.Bursts.{PutsSoFar}
-use Rattle.vx_bus_traits.proofs.Laws.Puts.{length-ended}
+use Rattle.vx_488.specs.Steps.{Went}
+use Rattle.vx_488.specs.Walks.{Walk}
+use Rattle.vx_488.specs.Bursts.{ended}
+use Rattle.vx_488.specs.Bursts.{PutsSoFar}
+use Rattle.vx_488.proofs.Laws.Puts.{length-ended}
 use Rattle.vx_sim.specs.Occupants.{Occupant, Placed, seen, TakesByte, TakesPuts}
 use Rattle.vx_sim.specs.Bench.{listens, everyone, some_refuses, holds_put, OccupantWhere, BenchWhere, PlaceTakes}
 use Rattle.vx_sim.specs.Finding.{indices}

@@ -3,11 +3,11 @@ use Rattle.std.proofs.Common.{◌≡◌, ℕ, zero, suc, ◌+◌, ◌<◌, ◌�
 use Rattle.std.proofs.lemmas.List.{append-nil, map-append, length-take-le}
 use Rattle.vx_488.specs.declared.transfers.Transfer.{Transfer}
 use Rattle.vx_488.specs.declared.transfers.Transfer.TheVariants.{Put, Got}
-use Rattle.vx_bus_traits.specs.declared.asks.Ask.TheVariants as ask
-use Rattle.vx_bus_traits.specs.declared.bursts.Stop.{Stop}
-use Rattle.vx_bus_traits.specs.declared.bursts.Stop.TheVariants as stop
-use Rattle.vx_bus_traits.specs.Steps.{Step, Went, Held, Path}
-use Rattle.vx_bus_traits.specs.Bursts.{ended, gets_steps, refused_get}
+use Rattle.vx_488.specs.declared.asks.Ask.TheVariants as ask
+use Rattle.vx_488.specs.declared.bursts.Stop.{Stop}
+use Rattle.vx_488.specs.declared.bursts.Stop.TheVariants as stop
+use Rattle.vx_488.specs.Steps.{Step, Went, Held, Path}
+use Rattle.vx_488.specs.Bursts.{ended, gets_steps, refused_get}
 use Rattle.vx_inst.specs.declared.done.Done.{Done}
 use Rattle.vx_inst.specs.declared.done.Done.TheVariants.{Took, Gave}
 use Rattle.vx_inst.specs.View.{View}

@@ -13,7 +13,7 @@ use Rattle.vx_488.specs.Command.{command_of}
 use Rattle.vx_488.specs.Heard.{Byte}
 use Rattle.vx_488.specs.Listening.{has_address}
 use Rattle.vx_488.specs.Wire.{is_talking}
-use Rattle.vx_bus_traits.specs.Steps.{Step, Path}
+use Rattle.vx_488.specs.Steps.{Step, Path}
 use Rattle.vx_inst.specs.Laws.{takes_byte, gives_byte}
 use Rattle.vx_sim.specs.declared.signals.Signal.TheVariants as signal
 use Rattle.vx_sim.specs.Occupants.{Occupant, Placed, seen, TakesByte, TakesPuts, Receives, GivesBy, GivesByte, GivesStatus}

@@ -8,8 +8,8 @@ use Rattle.vx_488.specs.declared.commands.Command.{Command}
 use Rattle.vx_488.specs.declared.commands.Command.TheVariants as command
 use Rattle.vx_488.specs.Command.{command_of}
 use Rattle.vx_488.specs.Heard.{Byte, heard}
-use Rattle.vx_bus_traits.specs.Steps.{Step, Went, Told}
-use Rattle.vx_bus_traits.specs.Walks.{Walk}
+use Rattle.vx_488.specs.Steps.{Step, Went, Told}
+use Rattle.vx_488.specs.Walks.{Walk}
 use Rattle.vx_sim.specs.Occupants.{Occupant, TakesByte}
 use Rattle.vx_sim.specs.SimState.{SimState, Through}
 

@@ -11,8 +11,8 @@ use Rattle.vx_table.specs.Table.{TableState, table_rule}
 use Rattle.vx_488.specs.declared.transfers.Addr.{Addr}
 use Rattle.vx_488.specs.declared.transfers.Transfer.{Transfer}
 use Rattle.vx_488.specs.declared.transfers.Transfer.TheVariants.{Put, Got}
-use Rattle.vx_bus_traits.specs.declared.asks.Ask.TheVariants as ask
-use Rattle.vx_bus_traits.specs.Steps.{Step, Went, Held}
+use Rattle.vx_488.specs.declared.asks.Ask.TheVariants as ask
+use Rattle.vx_488.specs.Steps.{Step, Went, Held}
 use Rattle.vx_sim.specs.declared.signals.Signal.{Signal}
 use Rattle.vx_sim.specs.declared.signals.Signal.TheVariants as signal
 

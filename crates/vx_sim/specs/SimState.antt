@@ -1,14 +1,14 @@
 -- To be believed.
 -- A bus with instruments on it, and how it changes by each step.
 use Rattle.std.specs.Prelude.{◌≡◌, ℕ, ◌+◌, ◌-◌, ◌==◌, nat_lt, max, Bool, true, false, if◌then◌else◌, List, [], ◌∷◌, ◌++◌, length, Option, None, Some}
-use Rattle.vx_bus_traits.specs.Faults.{one_more}
+use Rattle.vx_488.specs.Faults.{one_more}
 use Rattle.vx_488.specs.Wire.{step}
 use Rattle.vx_488.specs.declared.transfers.Transfer.{Transfer}
-use Rattle.vx_bus_traits.specs.declared.asks.Ask.{Ask}
-use Rattle.vx_bus_traits.specs.declared.asks.Ask.TheVariants as ask
-use Rattle.vx_bus_traits.specs.Means.{Means}
-use Rattle.vx_bus_traits.specs.Means.{first_means}
-use Rattle.vx_bus_traits.specs.Steps.{Step, Went, Held, Failed, Told, Cut, ask_for}
+use Rattle.vx_488.specs.declared.asks.Ask.{Ask}
+use Rattle.vx_488.specs.declared.asks.Ask.TheVariants as ask
+use Rattle.vx_488.specs.Means.{Means}
+use Rattle.vx_488.specs.Means.{first_means}
+use Rattle.vx_488.specs.Steps.{Step, Went, Held, Failed, Told, Cut, ask_for}
 use Rattle.vx_sim.specs.declared.signals.Signal.TheVariants as signal
 use Rattle.vx_sim.specs.Occupants.{Placed, Receives}
 use Rattle.vx_sim.specs.Bench.{BenchWhere, everyone, BenchAfter, holds_put, holds_get}

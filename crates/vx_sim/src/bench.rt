@@ -5,7 +5,7 @@ ghost use Rattle.std.specs.List.{list_any, insert};
 ghost use Rattle.vx_sim.specs.declared.TheConstants.{PLACES_MAX};
 ghost use Rattle.vx_488.specs.declared.transfers.Transfer.TheVariants.{Put};
 ghost use Rattle.vx_488.specs.Address.{is_bus_address};
-ghost use Rattle.vx_bus_traits.specs.Bursts.{ended, gets_steps, StopsAt};
+ghost use Rattle.vx_488.specs.Bursts.{ended, gets_steps, StopsAt};
 ghost use Rattle.vx_sim.specs.Occupants.{TakesByte, Receives};
 ghost use Rattle.vx_sim.specs.Bench.{listens, talks, some_refuses, holds_put, holds_get, stands_at, PlaceWhere, PlaceTakes, PlaceGives, BenchWhere, BenchAfterCommand, BenchAfterRemote, TalkerGives};
 ghost use Rattle.vx_sim.specs.Attaching.{clashes, holder, AreApart, IsInOrder, AreKnown};
@@ -18,8 +18,7 @@ use crate::{NoMemory, PLACES_MAX};
 use arrayvec::ArrayVec;
 use std::alloc::Global;
 use std::marker::Model;
-use vx_488::{Addr, Command, Wire};
-use vx_bus_traits::{ManyGot, Stop};
+use vx_488::{Addr, Command, ManyGot, Stop, Wire};
 use vx_inst::Instrument;
 
 /// Indices of instruments on a bench.

@@ -2,8 +2,8 @@
 
 ghost use Rattle.std.specs.Prelude.{◌≡◌, ◌≤◌, true, false, length, take, drop};
 ghost use Rattle.vx_488.specs.declared.transfers.Transfer.TheVariants.{Put};
-ghost use Rattle.vx_bus_traits.specs.Bursts.{ended, gets_steps, StopsAt};
-ghost use Rattle.vx_bus_traits.specs.Steps.{Path};
+ghost use Rattle.vx_488.specs.Bursts.{ended, gets_steps, StopsAt};
+ghost use Rattle.vx_488.specs.Steps.{Path};
 ghost use Rattle.vx_inst.specs.Laws.{takes_byte, gives_byte};
 ghost use Rattle.vx_sim.specs.Occupants.{Table, Boxed, seen, TakesByte, TakesPuts, Receives, GivesByte, GivesStatus, GivesBy};
 ghost use Rattle.vx_sim.specs.Bench.{listens, talks, refuses, can_answer, answers_get, PlaceWhere, PlaceTakes, PlaceGives, TalkerGives};
@@ -13,8 +13,7 @@ ghost use Rattle.vx_sim.specs.Finding.{waits};
 
 use crate::seat::Seat;
 use crate::signals::{Question, Signal, Whom};
-use vx_488::{Addr, Wire};
-use vx_bus_traits::{ManyGot, Stop};
+use vx_488::{Addr, ManyGot, Stop, Wire};
 use vx_inst::Instrument;
 use vx_table::TableInst;
 

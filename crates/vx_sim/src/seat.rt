@@ -2,8 +2,8 @@
 
 ghost use Rattle.std.specs.Prelude.{◌≡◌, ◌≤◌, ◌++◌, true, length, take, drop};
 ghost use Rattle.vx_488.specs.declared.transfers.Transfer.TheVariants.{Put};
-ghost use Rattle.vx_bus_traits.specs.Bursts.{ended, gets_steps, StopsAt};
-ghost use Rattle.vx_bus_traits.specs.Steps.{Path};
+ghost use Rattle.vx_488.specs.Bursts.{ended, gets_steps, StopsAt};
+ghost use Rattle.vx_488.specs.Steps.{Path};
 ghost use Rattle.vx_inst.specs.declared.done.Done.TheVariants.{Took, Gave, Polled, Cleared, Triggered, ToLocal, StatusSet, Told};
 ghost use Rattle.vx_inst.specs.Laws.{takes_byte, gives_byte, InstTakes, InstGives, status_byte, IsInstPolled, IsCleared, IsTriggered, IsInstTold, with_status};
 ghost use Rattle.vx_inst.specs.Runs.{takings, gave};
@@ -12,7 +12,7 @@ ghost use Rattle.vx_sim.specs.Occupants.{Boxed, handed_in, HasCall, IsKnown, Tak
 
 use http_server::Log;
 use std::marker::Model;
-use vx_bus_traits::{ManyGot, Stop};
+use vx_488::{ManyGot, Stop};
 use vx_inst::{Done, Instrument};
 
 /// An instrument with the calls that it had on the bench. These are noted for proofs alone: they take no memory.

@@ -6,13 +6,13 @@ ghost use Rattle.vx_488.specs.declared.transfers.TheConstants.{ADDRESS_MAX};
 ghost use Rattle.vx_488.specs.declared.transfers.Transfer.TheVariants.{Cmd, Put, Got, Ren, Ifc, Own};
 ghost use Rattle.vx_488.specs.declared.wire.Wire.{Wire};
 ghost use Rattle.vx_488.specs.Address.{is_bus_address};
-ghost use Rattle.vx_bus_traits.specs.Steps.{Went, Held, Failed, Told, Cut, move_step, get_step, line_transfer, IsStepped};
+ghost use Rattle.vx_488.specs.Steps.{Went, Held, Failed, Told, Cut, move_step, get_step, line_transfer, IsStepped};
 ghost use Rattle.vx_sim.specs.Occupants.{Table, Boxed, handed_in};
 ghost use Rattle.vx_sim.specs.declared.TheConstants.{PLACES_MAX};
 ghost use Rattle.vx_sim.specs.Bench.{stands_at, listens, talks, some_asks, some_refuses};
 ghost use Rattle.vx_sim.specs.Finding.{indices};
-ghost use Rattle.vx_bus_traits.specs.Walks.{Walk};
-ghost use Rattle.vx_bus_traits.specs.Bursts.{ended, puts_steps, gets_steps, StopsAt, PutsSoFar};
+ghost use Rattle.vx_488.specs.Walks.{Walk};
+ghost use Rattle.vx_488.specs.Bursts.{ended, puts_steps, gets_steps, StopsAt, PutsSoFar};
 ghost use Rattle.vx_sim.specs.SimState.{first_state, is_next, nearer, means_after, means_past, after_bytes, Through};
 ghost use Rattle.vx_sim.specs.Attaching.{AreApart, AreKnown, refusal, taken_or_full, IsAttached, without_place, IsSet};
 ghost use Rattle.vx_sim.specs.Shown.{occupant_of, reaches_nobody, is_byte, moved};
@@ -25,8 +25,9 @@ use crate::signals::{Question, Signal, Way, Whom};
 use crate::{NoMemory, PLACES_MAX};
 use std::alloc::Global;
 use std::marker::Model;
-use vx_488::{Addr, Line, Transfer, Wire, command_of};
-use vx_bus_traits::{ASK_MAX, Ask, Bus, GetOut, Many, ManyGot, Move, Stop};
+use vx_488::{
+    ASK_MAX, Addr, Ask, Bus, GetOut, Line, Many, ManyGot, Move, Stop, Transfer, Wire, command_of,
+};
 use vx_inst::Instrument;
 use vx_table::TableInst;
 
@@ -52,7 +53,7 @@ pub struct SimBus<I: Instrument> {
 
 impl<I: Instrument> Model for SimBus<I> {
     ghost use Rattle.std.specs.Prelude.{◌≤◌, vec_len, vec_capacity};
-    ghost use Rattle.vx_bus_traits.specs.declared.asks.TheConstants.{ASK_MAX};
+    ghost use Rattle.vx_488.specs.declared.asks.TheConstants.{ASK_MAX};
     ghost use Rattle.vx_sim.specs.SimState.{SimState};
 
     ghost Value = { SimState };
@@ -522,9 +523,9 @@ fn nearer(failing: Option<u32>) -> Option<u32>
 impl<I: Instrument> Bus for SimBus<I> {
     ghost use Rattle.std.specs.Prelude.{◌≡◌, ◌<◌, ◌≤◌, ◌+◌, ◌↔◌, length, take, drop};
     ghost use Rattle.vx_488.specs.declared.transfers.Transfer.TheVariants.{Cmd, Put, Ifc, Own};
-    ghost use Rattle.vx_bus_traits.specs.Walks.{Walk};
-    ghost use Rattle.vx_bus_traits.specs.Bursts.{puts_steps, gets_steps, StopsAt};
-    ghost use Rattle.vx_bus_traits.specs.Steps.{Told, Cut, move_step, get_step, line_transfer, IsStepped};
+    ghost use Rattle.vx_488.specs.Walks.{Walk};
+    ghost use Rattle.vx_488.specs.Bursts.{puts_steps, gets_steps, StopsAt};
+    ghost use Rattle.vx_488.specs.Steps.{Told, Cut, move_step, get_step, line_transfer, IsStepped};
     ghost use Rattle.vx_sim.specs.Bench.{some_asks, some_refuses};
     ghost use Rattle.vx_sim.specs.SimState.{Through};
 

@@ -13,7 +13,7 @@ use std::alloc::Global;
 use std::sync::Wait;
 use std::test::Fail;
 use std::thread::{self, Threads};
-use vx_bus_traits::Bus;
+use vx_488::Bus;
 use vx_buses::{BusPass, Buses, many_abort};
 use vx_calls::Role;
 use vx_desks::Passes;

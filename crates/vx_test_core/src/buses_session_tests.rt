@@ -9,7 +9,7 @@ use crate::desk_tools::serve_at_desk;
 use crate::record_tools::{are_words, words};
 use std::alloc::Global;
 use std::sync::Wait;
-use vx_bus_traits::Bus;
+use vx_488::Bus;
 use vx_calls::Role;
 use vx_desks::{BusPass, Buses, Count, Fleet, FleetWorker};
 use vx_memory::MemLink;

@@ -7,7 +7,7 @@ ghost use Rattle.vx_desks.specs.Standing.{gates_shown};
 use crate::run_tools::add;
 use std::alloc::Global;
 use std::sync::Wait;
-use vx_bus_traits::Bus;
+use vx_488::Bus;
 use vx_buses::{BusPass, Buses, LinkServer, many_link, start_buses};
 use vx_io_traits::{Link, Pause};
 use vx_rack::{Echo, Spare};

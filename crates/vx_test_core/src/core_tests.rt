@@ -2,15 +2,14 @@
 //! on. The list of a write or a read of a device has three commands (UNL, and the two addresses), and then one transfer a byte (IEEE
 //! 488.1).
 ghost use Rattle.std.specs.Prelude.{◌≡◌, true, IfSome};
-ghost use Rattle.vx_bus_traits.specs.Means.{first_means};
+ghost use Rattle.vx_488.specs.Means.{first_means};
 ghost use Rattle.vx_calls.specs.Call.{call_shown};
 ghost use Rattle.vx_rules.specs.AtomicStep.{may_wait};
 ghost use Rattle.vx_rules.specs.Calls.{IsShort};
 
 use crate::gateway_tools::{core_over, mem_bus};
 use std::alloc::{AllocError, Global};
-use vx_488::Transfer;
-use vx_bus_traits::Bus;
+use vx_488::{Bus, Transfer};
 use vx_calls::{CallRef, DEVICE_MAX, ErrorCode, ReplyRef, Role};
 use vx_core::{Core, Polled, Why};
 

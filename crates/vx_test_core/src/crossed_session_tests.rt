@@ -1,7 +1,7 @@
 //! Two sessions at one gate, each in a thread: one waits for a lock that the other frees. The records are those of RFC 5531,
 //! sections 9 and 11, and of VXI-11.
 ghost use Rattle.std.specs.Prelude.{◌≡◌, ◌+◌, IfSome};
-ghost use Rattle.vx_bus_traits.specs.Means.{first_means};
+ghost use Rattle.vx_488.specs.Means.{first_means};
 ghost use Rattle.vx_gate.specs.Gates.{gate_of};
 ghost use Rattle.std.specs.Thread.{IsSync};
 
@@ -11,7 +11,7 @@ use std::alloc::Global;
 use std::sync::Wait;
 use std::test::Fail;
 use std::thread::{self, Threads};
-use vx_bus_traits::Bus;
+use vx_488::Bus;
 use vx_calls::Role;
 use vx_core::Core;
 use vx_gate::{Gate, Pass, Turns};

@@ -1,12 +1,12 @@
 //! Gateways over a bus in memory.
 ghost use Rattle.std.specs.Prelude.{◌≡◌, [], IfSome};
-ghost use Rattle.vx_bus_traits.specs.Means.{first_means};
+ghost use Rattle.vx_488.specs.Means.{first_means};
 ghost use Rattle.vx_core.specs.Standing.{Became};
 ghost use Rattle.vx_gate.specs.Gates.{gate_of};
 
 use std::alloc::Global;
+use vx_488::Bus;
 use vx_bus::MemBus;
-use vx_bus_traits::Bus;
 use vx_core::Core;
 use vx_gate::{Gate, Pass};
 

@@ -1,13 +1,13 @@
 //! Sessions that are guarded by rules, each by a gateway of its own. The records are those of RFC 5531, sections 9 and 11, and of VXI-11.
 ghost use Rattle.std.specs.Prelude.{◌≡◌, IfSome};
-ghost use Rattle.vx_bus_traits.specs.Means.{first_means};
+ghost use Rattle.vx_488.specs.Means.{first_means};
 
 use crate::gateway_tools::{gateway, mem_bus};
 use crate::guard_tools::{BOTH_DENIED, CREATE_AND_WRITE, CREATED, DENIED, WRITTEN};
 use crate::record_tools::{are_words, words};
 use std::alloc::Global;
 use std::sync::Wait;
-use vx_bus_traits::Bus;
+use vx_488::Bus;
 use vx_calls::Role;
 use vx_core::Core;
 use vx_door::{Door, Met};

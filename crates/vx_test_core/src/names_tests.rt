@@ -1,7 +1,7 @@
 //! A table of names for devices, and sessions at a desk with names, each by a gateway of its own. The records are those of RFC 5531,
 //! sections 9 and 11, and of VXI-11.
 ghost use Rattle.std.specs.Prelude.{◌≡◌, IfSome};
-ghost use Rattle.vx_bus_traits.specs.Means.{first_means};
+ghost use Rattle.vx_488.specs.Means.{first_means};
 
 use crate::desk_tools::serve_at_desk;
 use crate::gateway_tools::{gateway, mem_bus};
@@ -9,7 +9,7 @@ use crate::guard_tools::{CREATE_AND_WRITE, WRITTEN};
 use crate::record_tools::{are_words, words};
 use std::alloc::Global;
 use std::sync::Wait;
-use vx_bus_traits::Bus;
+use vx_488::Bus;
 use vx_calls::Role;
 use vx_core::Core;
 use vx_desks::{NameRefused, NameTable, Named};

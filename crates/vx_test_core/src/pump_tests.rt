@@ -1,7 +1,7 @@
 //! Pumps of the channel of a connection with two interrupts in its outbox. The record is the one of RFC 5531, section 9, and of
 //! VXI-11, device_intr_srq.
 ghost use Rattle.std.specs.Prelude.{◌≡◌, ◌≤◌, true, length, IfSome};
-ghost use Rattle.vx_bus_traits.specs.Means.{first_means};
+ghost use Rattle.vx_488.specs.Means.{first_means};
 ghost use Rattle.vx_calls.specs.Call.{call_shown};
 ghost use Rattle.vx_calls.specs.declared.calls.Role.TheVariants as role;
 ghost use Rattle.vx_rules.specs.AtomicStep.{may_wait};
@@ -17,7 +17,7 @@ use crate::session_tests::Pauses;
 use std::alloc::{AllocError, Global};
 use std::sync::Wait;
 use std::test::Fail;
-use vx_bus_traits::Bus;
+use vx_488::Bus;
 use vx_calls::{CallRef, Role};
 use vx_core::Core;
 use vx_exchange::{PollEnd, REPLY_ROOM};

@@ -1,6 +1,6 @@
 //! A bus with an instrument that asks for service, and handles as their bytes.
 ghost use Rattle.std.specs.Prelude.{◌≡◌, IfSome};
-ghost use Rattle.vx_bus_traits.specs.Means.{first_means};
+ghost use Rattle.vx_488.specs.Means.{first_means};
 
 use arrayvec::ArrayVec;
 use std::alloc::Global;

@@ -1,12 +1,12 @@
 //! Links that are served, each by a gateway of its own. The records are those of RFC 5531, sections 9 and 11, and of VXI-11.
 ghost use Rattle.std.specs.Prelude.{◌≡◌, IfSome};
-ghost use Rattle.vx_bus_traits.specs.Means.{first_means};
+ghost use Rattle.vx_488.specs.Means.{first_means};
 
 use crate::gateway_tools::{gateway, mem_bus};
 use crate::record_tools::{add_words, are_words};
 use std::alloc::{AllocError, Global};
 use std::sync::Wait;
-use vx_bus_traits::Bus;
+use vx_488::Bus;
 use vx_io_traits::{Clock, Pause, Rang};
 use vx_memory::{MemClock, MemDial, MemLink};
 use vx_session::{End, LinkDone, Linked, Room, Tally, core_link};

@@ -1,7 +1,7 @@
 //! A bus with one instrument.
 
 ghost use Rattle.std.specs.Prelude.{◌≡◌, IfSome};
-ghost use Rattle.vx_bus_traits.specs.Means.{first_means};
+ghost use Rattle.vx_488.specs.Means.{first_means};
 
 use std::alloc::Global;
 use vx_488::Addr;

@@ -2,7 +2,7 @@
 
 use crate::word_tools::{link_of, reach_of};
 use std::alloc::{AllocError, Global};
-use vx_bus_traits::{Bus, Move, Stop};
+use vx_488::{Bus, Move, Stop};
 use vx_client::ClientErr;
 use vx_io_traits::Reach;
 use vx_memory::{MemLink, MemReach};

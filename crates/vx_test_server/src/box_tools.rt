@@ -6,7 +6,7 @@ ghost use Rattle.vx_calls.specs.declared.limits.TheConstants.{RECORD_MAX};
 use std::alloc::Global;
 use std::sync::Arc;
 use std::sync::atomic::{AtomicU64, Ordering};
-use vx_bus_traits::Bus;
+use vx_488::Bus;
 use vx_calls::{RECORD_MAX, Role};
 use vx_core::Core;
 use vx_exchange::{Opened, PollEnd, REPLY_ROOM, again, come, open};

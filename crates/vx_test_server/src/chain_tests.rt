@@ -2,7 +2,7 @@
 //! of faults between the two.
 
 ghost use Rattle.std.specs.Prelude.{◌≡◌};
-ghost use Rattle.vx_bus_traits.specs.Means.{first_means};
+ghost use Rattle.vx_488.specs.Means.{first_means};
 
 use crate::bench_tools::bus_with;
 use crate::box_tools::{BoxLink, CALM, Conduct, Count, box_link, count_of};
@@ -10,7 +10,7 @@ use crate::word_tools::{push_words, words};
 use std::alloc::{AllocError, Global};
 use std::sync::Arc;
 use std::sync::atomic::Ordering;
-use vx_bus_traits::Bus;
+use vx_488::Bus;
 use vx_core::Core;
 use vx_inst::Instrument;
 use vx_io_traits::{Link, Reach, ReadOut};

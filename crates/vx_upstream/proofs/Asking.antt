@@ -1,7 +1,7 @@
 -- A device_read, and what its bytes come to.
 use Rattle.std.proofs.Common.{◌≡◌, ℕ, Bool, List, Option, Result, ap, ◌∙◌, subst}
-use Rattle.vx_bus_traits.specs.declared.asks.Move.{Move}
-use Rattle.vx_bus_traits.specs.declared.bursts.ManyGot.{ManyGot}
+use Rattle.vx_488.specs.declared.asks.Move.{Move}
+use Rattle.vx_488.specs.declared.bursts.ManyGot.{ManyGot}
 use Rattle.vx_client.specs.State.{ClientState}
 use Rattle.vx_client.specs.Parts.{read_call, end_of}
 use Rattle.vx_client.specs.declared.answers.CallOpts.{CallOpts}

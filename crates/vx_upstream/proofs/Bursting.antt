@@ -4,18 +4,18 @@ use Rattle.std.proofs.lemmas.Bool.{cases_lt}
 use Rattle.std.proofs.lemmas.List.{map-append, append-nil}
 use Rattle.vx_488.specs.declared.transfers.Transfer.{Transfer}
 use Rattle.vx_488.specs.declared.transfers.Transfer.TheVariants.{Put, Got}
-use Rattle.vx_bus_traits.specs.Means.{Means}
-use Rattle.vx_bus_traits.specs.Steps.{Step, Went, Held, Failed, Told, Cut, move_step, get_step}
-use Rattle.vx_bus_traits.specs.Walks.{StepsTo, Walk}
-use Rattle.vx_bus_traits.specs.Bursts.{ended, puts_steps, gets_steps, refused_put, refused_get, is_end, StopsAt}
-use Rattle.vx_bus_traits.proofs.Laws.Puts.{ended-at, take-next, length-ended}
-use Rattle.vx_bus_traits.specs.declared.asks.Ask.TheVariants as ask
-use Rattle.vx_bus_traits.specs.declared.asks.Move.{Move}
-use Rattle.vx_bus_traits.specs.declared.asks.Move.TheVariants as answer
-use Rattle.vx_bus_traits.specs.declared.bursts.Many.{Many}
-use Rattle.vx_bus_traits.specs.declared.bursts.ManyGot.{ManyGot}
-use Rattle.vx_bus_traits.specs.declared.bursts.Stop.{Stop}
-use Rattle.vx_bus_traits.specs.declared.bursts.Stop.TheVariants as stop
+use Rattle.vx_488.specs.Means.{Means}
+use Rattle.vx_488.specs.Steps.{Step, Went, Held, Failed, Told, Cut, move_step, get_step}
+use Rattle.vx_488.specs.Walks.{StepsTo, Walk}
+use Rattle.vx_488.specs.Bursts.{ended, puts_steps, gets_steps, refused_put, refused_get, is_end, StopsAt}
+use Rattle.vx_488.proofs.Laws.Puts.{ended-at, take-next, length-ended}
+use Rattle.vx_488.specs.declared.asks.Ask.TheVariants as ask
+use Rattle.vx_488.specs.declared.asks.Move.{Move}
+use Rattle.vx_488.specs.declared.asks.Move.TheVariants as answer
+use Rattle.vx_488.specs.declared.bursts.Many.{Many}
+use Rattle.vx_488.specs.declared.bursts.ManyGot.{ManyGot}
+use Rattle.vx_488.specs.declared.bursts.Stop.{Stop}
+use Rattle.vx_488.specs.declared.bursts.Stop.TheVariants as stop
 use Rattle.std.specs.Prelude.{slice_index, Option, None}
 use Rattle.std.proofs.Math.Seq.{take-length}
 use Rattle.vx_client.specs.State.{ClientState}

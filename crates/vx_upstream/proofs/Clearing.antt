@@ -3,10 +3,10 @@ use Rattle.std.proofs.Common.{◌≡◌, ◌≢◌, ◌+◌, [], ◌∷◌, ◌+
 use Rattle.vx_io_traits.specs.Faults.{one_more}
 use Rattle.vx_488.specs.declared.transfers.Transfer.TheVariants.{Ifc}
 use Rattle.vx_488.specs.Wire.{step}
-use Rattle.vx_bus_traits.specs.Means.{Means}
-use Rattle.vx_bus_traits.specs.Steps.{Step, Went, Held, Failed, Told, Cut, move_step, IsStepped}
-use Rattle.vx_bus_traits.specs.declared.asks.Move.{Move}
-use Rattle.vx_bus_traits.specs.declared.asks.Move.TheVariants as answer
+use Rattle.vx_488.specs.Means.{Means}
+use Rattle.vx_488.specs.Steps.{Step, Went, Held, Failed, Told, Cut, move_step, IsStepped}
+use Rattle.vx_488.specs.declared.asks.Move.{Move}
+use Rattle.vx_488.specs.declared.asks.Move.TheVariants as answer
 use Rattle.vx_upstream.specs.UpstreamState.{UpstreamState, Kept, after}
 use Rattle.vx_upstream.specs.Sending.{LinkWords}
 use Rattle.vx_upstream.specs.Stepping.{ClearsBus, Through}

@@ -2,7 +2,7 @@
 use Rattle.std.proofs.Common.{◌≡◌, ℕ, zero, suc, ◌+◌, ◌-◌, ◌<◌, Bool, true, false, List, [], ◌∷◌, ◌++◌, length, take, get_or, refl, sym, ap, subst, arith, None}
 use Rattle.std.specs.Prelude.{◌||◌}
 use Rattle.std.specs.List.{list_any}
-use Rattle.vx_bus_traits.specs.Bursts.{is_char}
+use Rattle.vx_488.specs.Bursts.{is_char}
 use Rattle.vx_upstream.specs.Answering.{front_of, last_byte}
 
 -- with no stop byte none is

@@ -1,15 +1,15 @@
 -- What a box's answers mean to whoever asks the bus.
 use Rattle.std.specs.Prelude.{ℕ, ◌-◌, ◌==◌, if◌then◌else◌, Bool, true, false, not, nat_lt, length, min, bit_and, slice_index, take, List, [], ◌∷◌, Option, Result, Ok, Err}
 use Rattle.std.specs.List.{list_any}
-use Rattle.vx_bus_traits.specs.Bursts.{is_char}
-use Rattle.vx_bus_traits.specs.declared.asks.Move.{Move}
-use Rattle.vx_bus_traits.specs.declared.asks.Move.TheVariants as answer
-use Rattle.vx_bus_traits.specs.declared.asks.GetOut.{GetOut}
-use Rattle.vx_bus_traits.specs.declared.asks.GetOut.TheVariants as get
-use Rattle.vx_bus_traits.specs.declared.bursts.Many.{Many}
-use Rattle.vx_bus_traits.specs.declared.bursts.ManyGot.{ManyGot}
-use Rattle.vx_bus_traits.specs.declared.bursts.Stop.{Stop}
-use Rattle.vx_bus_traits.specs.declared.bursts.Stop.TheVariants as stop
+use Rattle.vx_488.specs.Bursts.{is_char}
+use Rattle.vx_488.specs.declared.asks.Move.{Move}
+use Rattle.vx_488.specs.declared.asks.Move.TheVariants as answer
+use Rattle.vx_488.specs.declared.asks.GetOut.{GetOut}
+use Rattle.vx_488.specs.declared.asks.GetOut.TheVariants as get
+use Rattle.vx_488.specs.declared.bursts.Many.{Many}
+use Rattle.vx_488.specs.declared.bursts.ManyGot.{ManyGot}
+use Rattle.vx_488.specs.declared.bursts.Stop.{Stop}
+use Rattle.vx_488.specs.declared.bursts.Stop.TheVariants as stop
 use Rattle.vx_client.specs.declared.answers.ReadEnd.{ReadEnd}
 use Rattle.vx_client.specs.declared.answers.ClientErr.{ClientErr}
 use Rattle.vx_client.specs.declared.answers.ClientErr.TheVariants as err

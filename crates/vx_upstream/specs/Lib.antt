@@ -10,10 +10,10 @@ pub use Rattle.vx_488.specs.Wire
 pub use Rattle.vx_io_traits.specs.Faults
 pub use Rattle.vx_io_traits.specs.Rung
 pub use Rattle.vx_io_traits.specs.Stands
-pub use Rattle.vx_bus_traits.specs.Means
-pub use Rattle.vx_bus_traits.specs.Steps
-pub use Rattle.vx_bus_traits.specs.Walks
-pub use Rattle.vx_bus_traits.specs.Bursts
+pub use Rattle.vx_488.specs.Means
+pub use Rattle.vx_488.specs.Steps
+pub use Rattle.vx_488.specs.Walks
+pub use Rattle.vx_488.specs.Bursts
 pub use Rattle.vx_client.specs.State
 pub use Rattle.vx_client.specs.Exchange
 pub use Rattle.vx_client.specs.Sizes

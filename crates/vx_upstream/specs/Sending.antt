@@ -10,10 +10,10 @@ use Rattle.vx_io_traits.specs.Stands.{Stays}
 use Rattle.vx_calls.specs.Call.{Call}
 use Rattle.vx_calls.specs.declared.calls.Proc.TheVariants as proc
 use Rattle.vx_codec.specs.Answered.{Outcome}
-use Rattle.vx_bus_traits.specs.declared.asks.Move.{Move}
-use Rattle.vx_bus_traits.specs.declared.asks.Move.TheVariants as answer
-use Rattle.vx_bus_traits.specs.declared.bursts.Many.{Many}
-use Rattle.vx_bus_traits.specs.declared.bursts.ManyGot.{ManyGot}
+use Rattle.vx_488.specs.declared.asks.Move.{Move}
+use Rattle.vx_488.specs.declared.asks.Move.TheVariants as answer
+use Rattle.vx_488.specs.declared.bursts.Many.{Many}
+use Rattle.vx_488.specs.declared.bursts.ManyGot.{ManyGot}
 use Rattle.vx_client.specs.State.{ClientState}
 use Rattle.vx_client.specs.Calls.{command}
 use Rattle.vx_client.specs.Chunks.{write_call}

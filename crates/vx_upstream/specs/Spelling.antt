@@ -5,9 +5,9 @@ use Rattle.vx_488.specs.declared.transfers.Transfer.{Transfer}
 use Rattle.vx_488.specs.declared.transfers.Transfer.TheVariants.{Cmd, Put, Got, Ren, Atn, Ifc, Own}
 use Rattle.vx_488.specs.declared.wire.Wire.{Wire}
 use Rattle.vx_488.specs.Wire.{step, wire_after}
-use Rattle.vx_bus_traits.specs.Steps.{Step, Went, Held, Failed, Told, Cut, Path}
-use Rattle.vx_bus_traits.specs.Bursts.{ended, is_end}
-use Rattle.vx_bus_traits.specs.declared.bursts.ManyGot.{ManyGot}
+use Rattle.vx_488.specs.Steps.{Step, Went, Held, Failed, Told, Cut, Path}
+use Rattle.vx_488.specs.Bursts.{ended, is_end}
+use Rattle.vx_488.specs.declared.bursts.ManyGot.{ManyGot}
 use Rattle.vx_client.specs.Calls.{command}
 use Rattle.vx_client.specs.Chunks.{write_call}
 use Rattle.vx_client.specs.Meaning.{len_of, nothing_of}

@@ -2,14 +2,14 @@
 use Rattle.std.specs.Prelude.{◌≡◌, ℕ, ◌⊎◌, Bool, true, false, List, [], ◌∷◌, Option}
 use Rattle.vx_488.specs.declared.transfers.Transfer.TheVariants.{Put, Got, Ifc}
 use Rattle.vx_488.specs.Wire.{step}
-use Rattle.vx_bus_traits.specs.Steps.{Step, Went, Held, Failed, Told, Cut, ask_for}
-use Rattle.vx_bus_traits.specs.Bursts.{puts_steps, gets_steps}
-use Rattle.vx_bus_traits.specs.declared.asks.Ask.{Ask}
-use Rattle.vx_bus_traits.specs.declared.asks.Ask.TheVariants as ask
-use Rattle.vx_bus_traits.specs.declared.asks.Move.{Move}
-use Rattle.vx_bus_traits.specs.declared.asks.Move.TheVariants as answer
-use Rattle.vx_bus_traits.specs.declared.bursts.Many.{Many}
-use Rattle.vx_bus_traits.specs.declared.bursts.ManyGot.{ManyGot}
+use Rattle.vx_488.specs.Steps.{Step, Went, Held, Failed, Told, Cut, ask_for}
+use Rattle.vx_488.specs.Bursts.{puts_steps, gets_steps}
+use Rattle.vx_488.specs.declared.asks.Ask.{Ask}
+use Rattle.vx_488.specs.declared.asks.Ask.TheVariants as ask
+use Rattle.vx_488.specs.declared.asks.Move.{Move}
+use Rattle.vx_488.specs.declared.asks.Move.TheVariants as answer
+use Rattle.vx_488.specs.declared.bursts.Many.{Many}
+use Rattle.vx_488.specs.declared.bursts.ManyGot.{ManyGot}
 use Rattle.vx_upstream.specs.UpstreamState.{UpstreamState, IsHere, IsAway, comes_back, clears, after}
 use Rattle.vx_upstream.specs.Sending.{LinkWords, Orders, Wrote, ReadMany, Looks, bit}
 use Rattle.vx_upstream.specs.Bringing.{Tries}

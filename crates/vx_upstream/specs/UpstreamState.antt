@@ -3,8 +3,8 @@
 use Rattle.std.specs.Prelude.{◌≡◌, ℕ, ◌+◌, Bool, true, false, ◌&&◌, not, nat_le, List, [], ◌∷◌, ◌++◌, Some}
 use Rattle.vx_io_traits.specs.Faults.{one_more}
 use Rattle.vx_488.specs.Wire.{step}
-use Rattle.vx_bus_traits.specs.Means.{Means, first_means}
-use Rattle.vx_bus_traits.specs.Steps.{Step, Went, Held, Failed, Told, Cut}
+use Rattle.vx_488.specs.Means.{Means, first_means}
+use Rattle.vx_488.specs.Steps.{Step, Went, Held, Failed, Told, Cut}
 use Rattle.vx_client.specs.State.{ClientState}
 use Rattle.vx_client.specs.declared.answers.CallOpts.{CallOpts}
 use Rattle.vx_client.specs.declared.answers.LinkMade.{LinkMade}

@@ -4,10 +4,10 @@ ghost use Rattle.std.specs.Prelude.{◌≡◌, ◌≢◌, ◌<◌, ◌≤◌, �
 ghost use Rattle.vx_calls.specs.declared.limits.TheConstants.{PIECE_MAX};
 ghost use Rattle.vx_488.specs.declared.transfers.TheConstants.{ADDRESS_MAX};
 ghost use Rattle.vx_488.specs.declared.transfers.Transfer.TheVariants.{Cmd, Put, Ifc, Own};
-ghost use Rattle.vx_bus_traits.specs.declared.asks.TheConstants.{ASK_MAX};
-ghost use Rattle.vx_bus_traits.specs.Steps.{Told, Cut, move_step, get_step, line_transfer, IsStepped};
-ghost use Rattle.vx_bus_traits.specs.Walks.{Walk};
-ghost use Rattle.vx_bus_traits.specs.Bursts.{puts_steps, gets_steps, StopsAt};
+ghost use Rattle.vx_488.specs.declared.asks.TheConstants.{ASK_MAX};
+ghost use Rattle.vx_488.specs.Steps.{Told, Cut, move_step, get_step, line_transfer, IsStepped};
+ghost use Rattle.vx_488.specs.Walks.{Walk};
+ghost use Rattle.vx_488.specs.Bursts.{puts_steps, gets_steps, StopsAt};
 ghost use Rattle.vx_upstream.specs.Sending.{words_of, bit, Orders, Wrote, ReadMany, LooksAtSrq, LooksAtNdac};
 ghost use Rattle.vx_upstream.specs.UpstreamState.{IsHere, level_seen};
 ghost use Rattle.vx_upstream.specs.Stepping.{LooksHere, Through};
@@ -15,8 +15,7 @@ ghost use Rattle.vx_upstream.specs.Stepping.{LooksHere, Through};
 use crate::calls::{ATN_CONTROL, BUS_ADDRESS, REN_CONTROL, SEND_COMMAND};
 use crate::judging::got_one;
 use crate::upstream::UpstreamBus;
-use vx_488::{Line, Transfer, Wire};
-use vx_bus_traits::{Bus, GetOut, Many, ManyGot, Move};
+use vx_488::{Bus, GetOut, Line, Many, ManyGot, Move, Transfer, Wire};
 use vx_io_traits::Reach;
 
 /// The selectors of SRQ and NDAC (VXI-11.2, bus status).
@@ -92,9 +91,9 @@ impl<L: Reach> UpstreamBus<L> {
 impl<L: Reach> Bus for UpstreamBus<L> {
     ghost use Rattle.std.specs.Prelude.{◌≡◌, ◌≢◌, ◌<◌, ◌≤◌, ◌+◌, ◌↔◌, length, take, drop};
     ghost use Rattle.vx_488.specs.declared.transfers.Transfer.TheVariants.{Cmd, Put, Ifc, Own};
-    ghost use Rattle.vx_bus_traits.specs.Steps.{Told, Cut, move_step, get_step, line_transfer, IsStepped};
-    ghost use Rattle.vx_bus_traits.specs.Walks.{Walk};
-    ghost use Rattle.vx_bus_traits.specs.Bursts.{puts_steps, gets_steps, StopsAt};
+    ghost use Rattle.vx_488.specs.Steps.{Told, Cut, move_step, get_step, line_transfer, IsStepped};
+    ghost use Rattle.vx_488.specs.Walks.{Walk};
+    ghost use Rattle.vx_488.specs.Bursts.{puts_steps, gets_steps, StopsAt};
     ghost use Rattle.vx_upstream.specs.UpstreamState.{level_seen};
     ghost use Rattle.vx_upstream.specs.Sending.{words_of};
     ghost use Rattle.vx_upstream.specs.Stepping.{Through};

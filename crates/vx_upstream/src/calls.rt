@@ -2,8 +2,8 @@
 
 ghost use Rattle.std.specs.Prelude.{◌≡◌, ◌≢◌, ◌<◌, ◌≤◌, ◌↔◌, [], length, take, drop, min};
 ghost use Rattle.vx_calls.specs.declared.limits.TheConstants.{PIECE_MAX};
-ghost use Rattle.vx_bus_traits.specs.Bursts.{StopsAt};
-ghost use Rattle.vx_bus_traits.specs.declared.asks.TheConstants.{ASK_MAX};
+ghost use Rattle.vx_488.specs.Bursts.{StopsAt};
+ghost use Rattle.vx_488.specs.declared.asks.TheConstants.{ASK_MAX};
 ghost use Rattle.vx_client.specs.Exchange.{IsCalled};
 ghost use Rattle.vx_client.specs.Parts.{read_call, end_of};
 ghost use Rattle.vx_upstream.specs.UpstreamState.{opts_of};
@@ -13,7 +13,7 @@ use crate::judging::{
     byte_move, bytes_come, judge, level_of, many_of, order_move, standing_after, tells_end,
 };
 use crate::upstream::UpstreamBus;
-use vx_bus_traits::{Many, ManyGot, Move};
+use vx_488::{Many, ManyGot, Move};
 use vx_calls::{PIECE_MAX, Proc};
 use vx_client::{CallOpts, Client, ClientErr, ReadEnd};
 use vx_io_traits::{Link, Reach};

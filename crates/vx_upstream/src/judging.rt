@@ -2,11 +2,11 @@
 
 ghost use Rattle.std.specs.Prelude.{◌≡◌, ◌≢◌, ◌<◌, ◌≤◌, ◌↔◌, length, take};
 ghost use Rattle.std.specs.List.{list_any};
-ghost use Rattle.vx_bus_traits.specs.Bursts.{StopsAt, is_char, is_end};
+ghost use Rattle.vx_488.specs.Bursts.{StopsAt, is_char, is_end};
 ghost use Rattle.vx_upstream.specs.Answering.{order_move, failed_at, held_at, many_of, byte_error, byte_move, bytes_come, tells_end, got_of, got_one, level_in, level_of, standing_after};
 
 use crate::upstream::Standing;
-use vx_bus_traits::{GetOut, Many, ManyGot, Move, Stop};
+use vx_488::{GetOut, Many, ManyGot, Move, Stop};
 use vx_client::{ClientErr, ReadEnd};
 
 /// The error of a box whose io_timeout passed (VXI-11, Device_ErrorCode).

@@ -2,7 +2,7 @@
 
 ghost use Rattle.std.specs.Prelude.{◌≡◌, ◌≤◌, length, string_bytes, OnOk, IfOk, IfErr};
 ghost use Rattle.vx_calls.specs.declared.limits.TheConstants.{DEVICE_MAX};
-ghost use Rattle.vx_bus_traits.specs.Means.{first_means};
+ghost use Rattle.vx_488.specs.Means.{first_means};
 ghost use Rattle.vx_upstream.specs.UpstreamState.{terms_of};
 ghost use Rattle.vx_upstream.specs.Sending.{words_of};
 ghost use Rattle.vx_upstream.specs.Opening.{IsLinked, IsUnlinked, IsRested, IsUnrested, IsOpened, IsUnopened};
@@ -12,8 +12,7 @@ use crate::orders::ORDER_MAX;
 use crate::tries::reach_box;
 use crate::upstream::{Levels, Standing, UpstreamBus};
 use std::alloc::Global;
-use vx_488::Wire;
-use vx_bus_traits::ASK_MAX;
+use vx_488::{ASK_MAX, Wire};
 use vx_client::{Client, ClientErr};
 use vx_io_traits::{DialOut, Reach};
 

@@ -3,18 +3,17 @@
 ghost use Rattle.std.specs.Prelude.{◌≡◌, ◌<◌, ◌≤◌, ◌+◌, ◌↔◌, ◌⊎◌, ◌&&◌, ◌==◌, [], length, take, drop, slice_index};
 ghost use Rattle.vx_calls.specs.declared.limits.TheConstants.{PIECE_MAX};
 ghost use Rattle.vx_488.specs.declared.transfers.Transfer.TheVariants.{Put, Got};
-ghost use Rattle.vx_bus_traits.specs.declared.asks.TheConstants.{ASK_MAX};
-ghost use Rattle.vx_bus_traits.specs.Steps.{move_step};
-ghost use Rattle.vx_bus_traits.specs.Walks.{Walk};
-ghost use Rattle.vx_bus_traits.specs.Bursts.{puts_steps, gets_steps, StopsAt};
+ghost use Rattle.vx_488.specs.declared.asks.TheConstants.{ASK_MAX};
+ghost use Rattle.vx_488.specs.Steps.{move_step};
+ghost use Rattle.vx_488.specs.Walks.{Walk};
+ghost use Rattle.vx_488.specs.Bursts.{puts_steps, gets_steps, StopsAt};
 ghost use Rattle.vx_upstream.specs.UpstreamState.{IsHere, IsAway, lost, after, past};
 ghost use Rattle.vx_upstream.specs.Sending.{words_of, Wrote, ReadMany};
 ghost use Rattle.vx_upstream.specs.Stepping.{Through};
 
 use crate::judging::is_end;
 use crate::upstream::{Standing, UpstreamBus};
-use vx_488::Transfer;
-use vx_bus_traits::{Ask, Bus, Many, ManyGot, Move, Stop};
+use vx_488::{Ask, Bus, Many, ManyGot, Move, Stop, Transfer};
 use vx_io_traits::Reach;
 
 /// The put of a byte of a burst, with END on the last one or not.

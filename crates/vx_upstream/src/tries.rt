@@ -11,8 +11,7 @@ ghost use Rattle.vx_upstream.specs.Stepping.{ClearsBus, ComesBack, moved};
 use crate::calls::{BUS_ADDRESS, IFC_CONTROL, REN_CONTROL, SEND_COMMAND};
 use crate::orders::{Order, put_orders};
 use crate::upstream::{Standing, UpstreamBus};
-use vx_488::{Transfer, Wire};
-use vx_bus_traits::Move;
+use vx_488::{Move, Transfer, Wire};
 use vx_client::{CallOpts, Client, ClientErr};
 use vx_io_traits::{DialOut, Reach};
 

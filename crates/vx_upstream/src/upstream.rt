@@ -5,8 +5,7 @@ ghost use Rattle.vx_upstream.specs.UpstreamState.{is_here, is_time, comes_back, 
 
 use crate::orders::Order;
 use std::marker::Model;
-use vx_488::{Transfer, Wire};
-use vx_bus_traits::{ASK_MAX, Ask};
+use vx_488::{ASK_MAX, Ask, Transfer, Wire};
 use vx_client::{Client, LinkMade};
 
 /// The levels of SRQ and NDAC as the box told them last, and the moments of the looks at them, in milliseconds.
@@ -97,7 +96,7 @@ pub struct UpstreamBus<L> {
 impl<L> Model for UpstreamBus<L> {
     ghost use Rattle.std.specs.Prelude.{◌≡◌, ◌≤◌, [], length, vec_len, vec_capacity, string_bytes};
     ghost use Rattle.vx_calls.specs.declared.limits.TheConstants.{DEVICE_MAX};
-    ghost use Rattle.vx_bus_traits.specs.declared.asks.TheConstants.{ASK_MAX};
+    ghost use Rattle.vx_488.specs.declared.asks.TheConstants.{ASK_MAX};
     ghost use Rattle.vx_upstream.specs.declared.orders.TheConstants.{ORDER_MAX};
     ghost use Rattle.vx_upstream.specs.UpstreamState.{UpstreamState};
 

@@ -3,7 +3,7 @@ ghost use Rattle.std.specs.Prelude.{◌≡◌, ◌≤◌, ◌-◌, ◌<◌, ℕ,
 ghost use Rattle.std.specs.Arc.{arc_value};
 ghost use Rattle.vx_calls.specs.declared.calls.Role.TheVariants as role;
 ghost use Rattle.vx_gate.specs.Gates.{first_of, gate_of};
-ghost use Rattle.vx_bus_traits.specs.Means.{first_means};
+ghost use Rattle.vx_488.specs.Means.{first_means};
 ghost use Rattle.vx_core.specs.InterleavedState.{first_interleaved};
 ghost use Rattle.vx_session.specs.Dialing.{dial_shown, no_dial};
 ghost use Rattle.vx_session.specs.Linking.{LinkDid};
@@ -13,7 +13,7 @@ ghost use Rattle.vx_workers.specs.Working.{Serving};
 
 use std::alloc::{AllocError, Global};
 use std::sync::{Arc, Wait};
-use vx_bus_traits::Bus;
+use vx_488::Bus;
 use vx_core::Core;
 use vx_gate::{Gate, Pass};
 use vx_io_traits::{Clock, Dial, Link, Pause};

@@ -10,7 +10,7 @@ use crate::served::Served;
 use crossbeam_channel::{Receiver, Sender};
 use std::alloc::Global;
 use std::sync::{Arc, Wait};
-use vx_bus_traits::Bus;
+use vx_488::Bus;
 use vx_io_traits::{Accepted, Clock, Dial, Handed, Link, Listen, Net, Pause, Sink, Streams, Work};
 use vx_session::{End, Linked, Room, Tools};
 use vx_startup::{Channel, Journal, Logs, News, Place, Placed, Reason};

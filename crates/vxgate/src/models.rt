@@ -1,5 +1,5 @@
 //! The instruments that this program plugs in.
-use vx_bus_traits::ManyGot;
+use vx_488::ManyGot;
 use vx_inst::Instrument;
 use vx_rack::{Asker, Echo, Meter, Slow};
 

@@ -4,7 +4,7 @@ ghost use Rattle.vx_desks.specs.CountLaws.{FourLaw, UnservedTextLaw, UnservedLaw
 ghost use Rattle.vx_desks.specs.Given.{LinksLaw, OnceLaw};
 ghost use Rattle.vx_group.specs.Laws.{ClaimsOfGroupsLaw, OwnedLaw};
 
-use vx_bus_traits::Bus;
+use vx_488::Bus;
 use vx_group::{claims_law, owned_law};
 use vx_rules::numbers_given_once;
 

@@ -4,12 +4,12 @@ use Rattle.std.proofs.lemmas.List.{length-take-le}
 use Rattle.vx_488.specs.Wire.{step}
 use Rattle.vx_488.specs.declared.transfers.Transfer.{Transfer}
 use Rattle.vx_488.specs.declared.transfers.Transfer.TheVariants.{Put}
-use Rattle.vx_bus_traits.specs.Faults.{one_more}
-use Rattle.vx_bus_traits.specs.Means.{Means}
-use Rattle.vx_bus_traits.specs.Steps.{Step, Went, Held, Failed, Told, Cut, Path}
-use Rattle.vx_bus_traits.specs.Walks.{StepsTo, Walk}
-use Rattle.vx_bus_traits.specs.Bursts.{ended}
-use Rattle.vx_bus_traits.proofs.Laws.Puts.{ended-at, take-next, length-ended}
+use Rattle.vx_488.specs.Faults.{one_more}
+use Rattle.vx_488.specs.Means.{Means}
+use Rattle.vx_488.specs.Steps.{Step, Went, Held, Failed, Told, Cut, Path}
+use Rattle.vx_488.specs.Walks.{StepsTo, Walk}
+use Rattle.vx_488.specs.Bursts.{ended}
+use Rattle.vx_488.proofs.Laws.Puts.{ended-at, take-next, length-ended}
 use Rattle.vx_inst.specs.Behavior.{Behavior}
 use Rattle.vx_inst.specs.Runs.{TakesNext, TakesRun}
 

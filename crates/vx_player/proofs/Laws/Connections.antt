@@ -10,7 +10,7 @@ use Rattle.vx_record.specs.Records.{records}
 use Rattle.vx_record.specs.Ends.{FeedEnds}
 use Rattle.vx_record.proofs.Laws.{fed-limit, fed-append}
 use Rattle.vx_record.proofs.Laws.Ends.{feed-ends}
-use Rattle.vx_bus_traits.specs.Steps.{Cut}
+use Rattle.vx_488.specs.Steps.{Cut}
 use Rattle.vx_script.specs.declared.Cause.TheVariants as cause
 use Rattle.vx_script.specs.Command.{Command, Up, In, Down}
 use Rattle.vx_trace.specs.Output.{Output, Call}

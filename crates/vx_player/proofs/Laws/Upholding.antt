@@ -7,7 +7,7 @@ use Rattle.vx_calls.specs.declared.calls.Role.{Role}
 use Rattle.vx_488.specs.declared.transfers.Transfer.{Transfer}
 use Rattle.vx_script.specs.Command.{Command, Up, In, Down, At, Poll, Sample, Take, Dial, Inst, Plug, Pull, Set, Fail}
 use Rattle.vx_trace.specs.Output.{Output}
-use Rattle.vx_bus_traits.specs.Steps.{Step}
+use Rattle.vx_488.specs.Steps.{Step}
 use Rattle.vx_exchange.specs.SrqState.{Channel, channel_at}
 use Rattle.vx_sim.specs.SimState.{SimState}
 use Rattle.vx_rules.specs.Lists.{along}

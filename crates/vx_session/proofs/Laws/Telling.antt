@@ -16,8 +16,8 @@ use Rattle.vx_calls.specs.Call.{Call}
 use Rattle.vx_calls.specs.Call as call
 use Rattle.vx_calls.specs.Reply.{Reply}
 use Rattle.vx_calls.specs.Reply as reply
-use Rattle.vx_bus_traits.specs.Steps.{Step}
-use Rattle.vx_bus_traits.specs.declared.bus.Bus.{Ghosts}
+use Rattle.vx_488.specs.Steps.{Step}
+use Rattle.vx_488.specs.declared.bus.Bus.{Ghosts}
 use Rattle.vx_rules.specs.Table.{is_full}
 use Rattle.vx_rules.specs.Lists.{along}
 use Rattle.vx_rules.proofs.Laws.Lists.{along-none}

@@ -11,8 +11,8 @@ use Rattle.vx_488.specs.Command.{command_of}
 use Rattle.vx_488.specs.Heard.{Byte, heard_of, heard}
 use Rattle.vx_488.specs.Listening.{has_address}
 use Rattle.vx_488.specs.Wire.{step}
-use Rattle.vx_bus_traits.specs.Means.{Means}
-use Rattle.vx_bus_traits.specs.Steps.{Step, Went, Held, Failed, Told, Cut}
+use Rattle.vx_488.specs.Means.{Means}
+use Rattle.vx_488.specs.Steps.{Step, Went, Held, Failed, Told, Cut}
 use Rattle.vx_sim.specs.Occupants.{Occupant, Placed, TakesByte}
 use Rattle.vx_sim.specs.Bench.{listens, OccupantWhere, BenchWhere, BenchAfterCommand, BenchAfterRemote}
 use Rattle.vx_sim.specs.SimState.{SimState, means_after, BenchThrough}

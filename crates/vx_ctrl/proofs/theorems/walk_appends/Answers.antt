@@ -1,5 +1,5 @@
-use Rattle.vx_bus_traits.specs.Walks.{StepsTo}
-use Rattle.vx_bus_traits.proofs.Laws.Puts.{path-append}
+use Rattle.vx_488.specs.Walks.{StepsTo}
+use Rattle.vx_488.proofs.Laws.Puts.{path-append}
 use Rattle.vx_ctrl.proofs.Walking.{path-split}
 use Rattle.vx_ctrl.proofs.theorems.walk_appends.Goals as goal
 

@@ -1,5 +1,5 @@
 use Rattle.std.proofs.Common.{Bool, true, false, sym, ap, ◌∙◌}
-use Rattle.vx_bus_traits.specs.Bursts.{ended, is_end}
+use Rattle.vx_488.specs.Bursts.{ended, is_end}
 use Rattle.vx_488.specs.declared.transfers.Transfer.TheVariants.{Got}
 use Rattle.vx_plan.specs.Results.{gots, last_of}
 use Rattle.vx_ctrl.proofs.Bursts.{last-value, not-end}

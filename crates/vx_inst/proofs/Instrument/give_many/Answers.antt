@@ -1,10 +1,10 @@
 use Rattle.std.proofs.Common.{true, false, subst, sym, refl, ◌∙◌, arith}
 use Rattle.std.proofs.lemmas.List.{length-set}
 use Rattle.vx_488.specs.declared.transfers.Transfer.TheVariants.{Got}
-use Rattle.vx_bus_traits.specs.declared.asks.Ask.TheVariants as ask
-use Rattle.vx_bus_traits.specs.Means.{Means, first_means}
-use Rattle.vx_bus_traits.specs.Steps.{Went, Held}
-use Rattle.vx_bus_traits.proofs.Laws.Gets.{gets-begin, gets-held, gets-end, gets-char, gets-next, gets-full, char-is}
+use Rattle.vx_488.specs.declared.asks.Ask.TheVariants as ask
+use Rattle.vx_488.specs.Means.{Means, first_means}
+use Rattle.vx_488.specs.Steps.{Went, Held}
+use Rattle.vx_488.proofs.Laws.Gets.{gets-begin, gets-held, gets-end, gets-char, gets-next, gets-full, char-is}
 use Rattle.vx_inst.specs.Behavior.{Behavior, seen}
 use Rattle.vx_inst.specs.Laws.{InstGives}
 use Rattle.vx_inst.specs.Runs.{GivesNext}

@@ -1,6 +1,6 @@
 use Rattle.std.proofs.Common.{length, ◌-◌}
-use Rattle.vx_bus_traits.specs.Means.{Means, first_means}
-use Rattle.vx_bus_traits.proofs.Laws.Gets.{GetsSoFar}
+use Rattle.vx_488.specs.Means.{Means, first_means}
+use Rattle.vx_488.proofs.Laws.Gets.{GetsSoFar}
 use Rattle.vx_inst.specs.Behavior.{Behavior}
 use Rattle.vx_inst.specs.Runs.{GivesNext}
 use Rattle.vx_inst.proofs.Laws.Runs.{Giving, meaning}

@@ -1,5 +1,5 @@
 use Rattle.std.proofs.Common.{◌≡◌, ◌+◌, ◌&&◌, ◌==◌, Bool, length, sym, arith}
-use Rattle.vx_bus_traits.proofs.Laws.Puts.{last-then, last-else}
+use Rattle.vx_488.proofs.Laws.Puts.{last-then, last-else}
 use Rattle.vx_inst.proofs.Laws.Runs.{takes-next}
 use Rattle.vx_inst.proofs.Instrument.take_many.Goals.{then-end, else-end}
 use Rattle.vx_inst.proofs.Instrument.take_many.Goals as goal

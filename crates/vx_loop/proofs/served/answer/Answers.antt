@@ -1,5 +1,5 @@
 use Rattle.std.proofs.Common.{◌≡◌, ◌≤◌, max, [], ◌∷◌, Some, take, sym, subst, ◌∙◌, arith}
-use Rattle.vx_bus_traits.specs.Steps.{Told, Cut}
+use Rattle.vx_488.specs.Steps.{Told, Cut}
 use Rattle.vx_calls.specs.declared.calls.Role.TheVariants as role
 use Rattle.vx_calls.specs.Call.{call_shown}
 use Rattle.vx_exchange.specs.declared.record.TheConstants.{REPLY_ROOM}

@@ -1,6 +1,6 @@
 use Rattle.std.proofs.Common.{◌≡◌, max, [], ◌∷◌, false, Some, ◌∙◌, subst, arith}
 use Rattle.vx_calls.specs.Reply as reply
-use Rattle.vx_bus_traits.specs.Steps.{Told, Cut}
+use Rattle.vx_488.specs.Steps.{Told, Cut}
 use Rattle.vx_flow.specs.Event.{Answer}
 use Rattle.vx_flow.specs.InterleavedStep.{interleaved_step}
 use Rattle.vx_loop.specs.Gateway.{BusGoes}

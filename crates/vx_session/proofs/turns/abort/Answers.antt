@@ -3,7 +3,7 @@ use Rattle.vx_calls.specs.declared.calls.Role.TheVariants as role
 use Rattle.vx_flow.specs.Event.{Abort}
 use Rattle.vx_group.specs.Phases.{Idle, is_up}
 use Rattle.vx_group.specs.Laws.{group_after}
-use Rattle.vx_bus_traits.specs.Steps.{Cut}
+use Rattle.vx_488.specs.Steps.{Cut}
 use Rattle.vx_session.specs.Origin.{origin}
 use Rattle.vx_session.specs.Turning.{SessionAborts}
 use Rattle.vx_session.proofs.Moments.{interleaved-moment, one-without}

@@ -1,7 +1,7 @@
 use Rattle.std.proofs.Common.{[], ◌∷◌, refl}
 use Rattle.vx_flow.specs.Event.{Down}
 use Rattle.vx_group.specs.Laws.{group_after}
-use Rattle.vx_bus_traits.specs.Steps.{Cut}
+use Rattle.vx_488.specs.Steps.{Cut}
 use Rattle.vx_session.specs.Origin.{origin}
 use Rattle.vx_session.specs.Turning.{phase_at}
 use Rattle.vx_session.proofs.Moments.{interleaved-moment, one-without}

@@ -1,6 +1,6 @@
 use Rattle.std.proofs.Common.{max, [], ◌∷◌, refl, ap, subst}
-use Rattle.vx_bus_traits.specs.Steps.{Told, Cut}
-use Rattle.vx_bus_traits.specs.Walks.{Walk}
+use Rattle.vx_488.specs.Steps.{Told, Cut}
+use Rattle.vx_488.specs.Walks.{Walk}
 use Rattle.vx_flow.specs.Event.{Sample}
 use Rattle.vx_group.specs.Laws.{group_after}
 use Rattle.vx_session.specs.Origin.{origin}

@@ -7,7 +7,7 @@ use Rattle.vx_group.specs.Groups.{events_of, StandsFor}
 use Rattle.vx_calls.specs.declared.calls.Role.TheVariants as role
 use Rattle.vx_group.specs.Phases.{Idle, Asked, is_up}
 use Rattle.vx_group.specs.Laws.{group_after}
-use Rattle.vx_bus_traits.specs.Steps.{Told, Cut}
+use Rattle.vx_488.specs.Steps.{Told, Cut}
 use Rattle.vx_session.specs.Origin.{origin}
 use Rattle.vx_session.specs.Placing.{behind}
 use Rattle.vx_session.specs.Parts.{settled_events}

@@ -1,5 +1,5 @@
 use Rattle.std.proofs.Common.{take}
-use Rattle.vx_bus_traits.specs.Bursts.{gets_steps}
+use Rattle.vx_488.specs.Bursts.{gets_steps}
 use Rattle.vx_sim.specs.Bench.{PlaceGives}
 use Rattle.vx_sim.specs.Shown.{placed_of}
 use Rattle.vx_sim.proofs.Changes.{set_at_place}

@@ -1,6 +1,6 @@
 use Rattle.std.proofs.Common.{take}
 use Rattle.vx_488.specs.declared.transfers.Transfer.TheVariants.{Put}
-use Rattle.vx_bus_traits.specs.Bursts.{ended}
+use Rattle.vx_488.specs.Bursts.{ended}
 use Rattle.vx_sim.specs.Bench.{PlaceTakes}
 use Rattle.vx_sim.specs.Shown.{placed_of}
 use Rattle.vx_sim.proofs.Changes.{set_at_place}

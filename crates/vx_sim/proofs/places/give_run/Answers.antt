@@ -1,10 +1,10 @@
 use Rattle.std.proofs.Common.{true, false, subst, sym, refl, ◌∙◌, arith}
 use Rattle.std.proofs.lemmas.List.{length-set}
 use Rattle.vx_488.specs.declared.transfers.Transfer.TheVariants.{Got}
-use Rattle.vx_bus_traits.specs.declared.asks.Ask.TheVariants as ask
-use Rattle.vx_bus_traits.specs.Means.{Means, first_means}
-use Rattle.vx_bus_traits.specs.Steps.{Went, Held}
-use Rattle.vx_bus_traits.proofs.Laws.Gets.{gets-begin, gets-held, gets-end, gets-char, gets-next, gets-full, char-is}
+use Rattle.vx_488.specs.declared.asks.Ask.TheVariants as ask
+use Rattle.vx_488.specs.Means.{Means, first_means}
+use Rattle.vx_488.specs.Steps.{Went, Held}
+use Rattle.vx_488.proofs.Laws.Gets.{gets-begin, gets-held, gets-end, gets-char, gets-next, gets-full, char-is}
 use Rattle.vx_sim.specs.Occupants.{Occupant, Table, GivesByte, GivesBy}
 use Rattle.vx_inst.proofs.Laws.Runs.{Giving, meaning, meant_after, gives-steps, gives-path}
 use Rattle.vx_sim.proofs.places.give_run.Goals as goal

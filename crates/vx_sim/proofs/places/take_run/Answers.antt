@@ -1,5 +1,5 @@
 use Rattle.std.proofs.Common.{◌≡◌, ◌+◌, ◌&&◌, ◌==◌, Bool, length, sym, arith}
-use Rattle.vx_bus_traits.proofs.Laws.Puts.{last-then, last-else}
+use Rattle.vx_488.proofs.Laws.Puts.{last-then, last-else}
 use Rattle.vx_sim.specs.Occupants.{Table}
 use Rattle.vx_sim.proofs.Runs.{takes-next}
 use Rattle.vx_sim.proofs.places.take_run.Goals.{then-end, else-end}

@@ -1,6 +1,6 @@
 use Rattle.std.proofs.Common.{◌≤◌, ◌-◌, length, take}
 use Rattle.vx_488.specs.declared.transfers.Transfer.TheVariants.{Put}
-use Rattle.vx_bus_traits.specs.Bursts.{ended}
+use Rattle.vx_488.specs.Bursts.{ended}
 use Rattle.vx_sim.specs.Occupants.{Table, TakesPuts}
 use Rattle.vx_sim.proofs.places.take_run.Given as goal
 

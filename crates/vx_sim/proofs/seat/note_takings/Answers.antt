@@ -1,7 +1,7 @@
 use Rattle.std.proofs.Common.{◌≡◌, ◌+◌, ◌&&◌, ◌==◌, ◌++◌, Bool, length, take, get_or, sym, ap, ◌∙◌, arith}
 use Rattle.vx_488.specs.declared.transfers.Transfer.TheVariants.{Put}
-use Rattle.vx_bus_traits.specs.Bursts.{ended}
-use Rattle.vx_bus_traits.proofs.Laws.Puts.{last-then, last-else}
+use Rattle.vx_488.specs.Bursts.{ended}
+use Rattle.vx_488.proofs.Laws.Puts.{last-then, last-else}
 use Rattle.vx_inst.specs.declared.done.Done.TheVariants.{Took}
 use Rattle.vx_inst.specs.Runs.{takings}
 use Rattle.vx_sim.specs.Histories.{calls_of}

@@ -1,6 +1,6 @@
 use Rattle.std.proofs.Common.{◌≡◌, ◌≤◌, ◌-◌, ◌++◌, take}
 use Rattle.vx_488.specs.declared.transfers.Transfer.TheVariants.{Put}
-use Rattle.vx_bus_traits.specs.Bursts.{ended}
+use Rattle.vx_488.specs.Bursts.{ended}
 use Rattle.vx_inst.specs.Runs.{takings}
 use Rattle.vx_sim.specs.Histories.{calls_of}
 use Rattle.vx_sim.proofs.seat.note_takings.Given as goal

@@ -1,6 +1,6 @@
 use Rattle.std.proofs.Common.{◌≡◌, ◌+◌, ◌∷◌, ◌++◌, ◌&&◌, ◌==◌, [], Bool, length, ap, ◌∙◌, arith}
 use Rattle.vx_488.specs.declared.transfers.Transfer.{Transfer}
-use Rattle.vx_bus_traits.proofs.Laws.Puts.{last-then, last-else}
+use Rattle.vx_488.proofs.Laws.Puts.{last-then, last-else}
 use Rattle.vx_sim.specs.Shown.{moved}
 use Rattle.vx_sim.proofs.Runs.{noted-next}
 use Rattle.vx_sim.proofs.sim.note.Goals.{then-end, else-end}

@@ -1,6 +1,6 @@
 use Rattle.std.proofs.Common.{◌≡◌, ◌≤◌, ◌+◌, ◌-◌, ◌++◌, take}
 use Rattle.std.specs.Prelude.{vec_len, vec_capacity}
-use Rattle.vx_bus_traits.specs.Bursts.{ended}
+use Rattle.vx_488.specs.Bursts.{ended}
 use Rattle.vx_sim.specs.Shown.{moved}
 use Rattle.vx_sim.proofs.sim.note.Given as goal
 

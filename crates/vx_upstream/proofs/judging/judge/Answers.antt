@@ -2,7 +2,7 @@ use Rattle.std.proofs.Common.{◌≡◌, ◌<◌, ◌∙◌, false, List, ℕ, l
 use Rattle.std.specs.List.{list_any}
 use Rattle.std.proofs.Math.Seq.{take-length}
 use Rattle.std.proofs.lemmas.Bool.Decides.{nat_tests}
-use Rattle.vx_bus_traits.specs.Bursts.{is_char}
+use Rattle.vx_488.specs.Bursts.{is_char}
 use Rattle.vx_upstream.specs.Answering.{front_of, last_byte}
 use Rattle.vx_upstream.proofs.Stopping.{front-last, clear-whole}
 use Rattle.vx_upstream.proofs.judging.judge.Goals as goal

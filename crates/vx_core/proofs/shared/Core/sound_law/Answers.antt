@@ -1,6 +1,6 @@
 use Rattle.std.proofs.Common.{◌≡◌, ◌≤◌, Option, None, Some, refl, subst}
 use Rattle.vx_488.specs.declared.transfers.TheConstants.{ADDRESS_MAX}
-use Rattle.vx_bus_traits.specs.Means.{Means}
+use Rattle.vx_488.specs.Means.{Means}
 use Rattle.vx_core.specs.declared.running.Running.{Running}
 use Rattle.vx_core.specs.KernelState.{KernelState}
 use Rattle.vx_core.specs.CoreState.{CoreState}

@@ -3,7 +3,7 @@ use Rattle.std.proofs.lemmas.List.{length-take, length-drop}
 use borrow.Rule.Slice.PartMut.{put_mid}
 use Rattle.vx_calls.specs.declared.targets.Target.{Target}
 use Rattle.vx_488.specs.declared.transfers.Transfer.TheVariants.{Got}
-use Rattle.vx_bus_traits.specs.Bursts.{ended, is_end, StopsAt}
+use Rattle.vx_488.specs.Bursts.{ended, is_end, StopsAt}
 use Rattle.vx_plan.specs.declared.tasks.Task.TheVariants.{Read}
 use Rattle.vx_plan.specs.Results.{gots, last_of}
 use Rattle.vx_plan.specs.Runs.{IsDataLeft}

@@ -1,9 +1,9 @@
 use Rattle.std.proofs.Common.{ℕ, ◌≡◌, ◌-◌, ◌+◌, ◌≤◌, ◌↔◌, ◌&&◌, ◌==◌, Bool, length, take, drop, refl, sym, ◌∙◌, subst, arith}
 use Rattle.std.proofs.lemmas.List.{length-take, length-drop}
-use Rattle.vx_bus_traits.specs.declared.asks.Move.TheVariants.{Went}
-use Rattle.vx_bus_traits.specs.Walks.{Walk}
-use Rattle.vx_bus_traits.specs.Bursts.{puts_steps}
-use Rattle.vx_bus_traits.proofs.Laws.Puts.{last-then, last-else}
+use Rattle.vx_488.specs.declared.asks.Move.TheVariants.{Went}
+use Rattle.vx_488.specs.Walks.{Walk}
+use Rattle.vx_488.specs.Bursts.{puts_steps}
+use Rattle.vx_488.proofs.Laws.Puts.{last-then, last-else}
 use Rattle.vx_calls.specs.declared.targets.Target.{Target}
 use Rattle.vx_plan.specs.declared.tasks.Task.TheVariants.{Write}
 use Rattle.vx_plan.specs.Runs.{IsDataLeft}

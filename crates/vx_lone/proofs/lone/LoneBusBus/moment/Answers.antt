@@ -1,5 +1,5 @@
 use Rattle.std.proofs.Common.{subst}
-use Rattle.vx_bus_traits.specs.Steps.{Told}
+use Rattle.vx_488.specs.Steps.{Told}
 use Rattle.vx_sim.specs.SimState.{SimState}
 use Rattle.vx_lone.specs.Lone.{IsLoneStep}
 use Rattle.vx_lone.proofs.Stays.{step_stays, step_lone}

@@ -1,6 +1,6 @@
 use Rattle.std.proofs.Common.{take, subst, arith}
-use Rattle.vx_bus_traits.specs.Bursts.{gets_steps}
-use Rattle.vx_bus_traits.specs.Steps.{Path}
+use Rattle.vx_488.specs.Bursts.{gets_steps}
+use Rattle.vx_488.specs.Steps.{Path}
 use Rattle.vx_sim.specs.Bench.{everyone, PlaceGives}
 use Rattle.vx_sim.specs.Occupants.{GivesBy}
 use Rattle.vx_sim.specs.Attaching.{AreApart}

@@ -1,6 +1,6 @@
 use Rattle.std.proofs.Common.{take, arith}
 use Rattle.vx_488.specs.declared.transfers.Transfer.TheVariants.{Put}
-use Rattle.vx_bus_traits.specs.Bursts.{ended}
+use Rattle.vx_488.specs.Bursts.{ended}
 use Rattle.vx_sim.specs.Bench.{everyone, PlaceTakes}
 use Rattle.vx_sim.specs.Occupants.{TakesPuts}
 use Rattle.vx_sim.specs.Shown.{placed_of}

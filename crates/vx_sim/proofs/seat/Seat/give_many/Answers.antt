@@ -1,6 +1,6 @@
 use Rattle.std.proofs.Common.{◌≡◌, ◌++◌, List, take, sym, ap, ◌∙◌, subst, arith}
-use Rattle.vx_bus_traits.specs.Bursts.{gets_steps}
-use Rattle.vx_bus_traits.specs.Steps.{Step}
+use Rattle.vx_488.specs.Bursts.{gets_steps}
+use Rattle.vx_488.specs.Steps.{Step}
 use Rattle.vx_inst.specs.declared.done.Done.{Done}
 use Rattle.vx_sim.specs.Histories.{calls_of, IsAfter}
 use Rattle.vx_sim.proofs.Seats.{givings, gave-room, seat-gives, after-gives, after-more}

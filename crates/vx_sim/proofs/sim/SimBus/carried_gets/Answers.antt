@@ -1,10 +1,10 @@
 use Rattle.std.proofs.Common.{◌≡◌, true, false, List, inl, inr, refl, sym, ap, ◌∙◌, arith}
 use Rattle.vx_488.specs.declared.transfers.Transfer.TheVariants.{Got}
-use Rattle.vx_bus_traits.specs.Bursts.{gets_steps}
-use Rattle.vx_bus_traits.specs.declared.bursts.Stop.{Stop}
-use Rattle.vx_bus_traits.specs.declared.bursts.Stop.TheVariants as stop
-use Rattle.vx_bus_traits.specs.Steps.{Step}
-use Rattle.vx_bus_traits.proofs.Laws.Puts.{length-ended}
+use Rattle.vx_488.specs.Bursts.{gets_steps}
+use Rattle.vx_488.specs.declared.bursts.Stop.{Stop}
+use Rattle.vx_488.specs.declared.bursts.Stop.TheVariants as stop
+use Rattle.vx_488.specs.Steps.{Step}
+use Rattle.vx_488.proofs.Laws.Puts.{length-ended}
 use Rattle.vx_sim.specs.SimState.{SimState, means_past}
 use Rattle.vx_sim.proofs.Giving.{all-came, gots-noted, gots-held}
 use Rattle.vx_sim.proofs.sim.SimBus.carried_gets.Goals as goal

@@ -1,10 +1,10 @@
 use Rattle.std.proofs.Common.{Bool, subst, sym, ◌∙◌, arith}
 use Rattle.std.proofs.lemmas.List.{length-set}
 use Rattle.vx_488.specs.declared.transfers.Transfer.TheVariants.{Got}
-use Rattle.vx_bus_traits.specs.declared.asks.GetOut.TheVariants as get
-use Rattle.vx_bus_traits.specs.Steps.{Went, get_step}
-use Rattle.vx_bus_traits.specs.Walks.{StepsTo}
-use Rattle.vx_bus_traits.proofs.Laws.Gets.{gets-held, gets-failed, gets-end, gets-char, gets-next, gets-full, char-is}
+use Rattle.vx_488.specs.declared.asks.GetOut.TheVariants as get
+use Rattle.vx_488.specs.Steps.{Went, get_step}
+use Rattle.vx_488.specs.Walks.{StepsTo}
+use Rattle.vx_488.proofs.Laws.Gets.{gets-held, gets-failed, gets-end, gets-char, gets-next, gets-full, char-is}
 use Rattle.vx_sim.specs.SimState.{SimState, Through}
 use Rattle.vx_sim.proofs.Stepping.{steps-to}
 use Rattle.vx_sim.proofs.sim.SimBus.get_each.Goals as goal

@@ -1,6 +1,6 @@
 use Rattle.std.proofs.Common.{◌≡◌, length, ◌-◌}
 use Rattle.std.specs.Prelude.{position}
-use Rattle.vx_bus_traits.proofs.Laws.Gets.{GetsSoFar}
+use Rattle.vx_488.proofs.Laws.Gets.{GetsSoFar}
 use Rattle.vx_sim.specs.Bench.{talks}
 use Rattle.vx_sim.specs.SimState.{Through}
 use Rattle.vx_sim.proofs.sim.SimBus.get_each.Given as goal

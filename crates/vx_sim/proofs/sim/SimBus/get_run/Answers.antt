@@ -1,7 +1,7 @@
 use Rattle.std.proofs.Common.{◌≡◌, false, Some, take, sym, ap, ◌∙◌, subst}
 use Rattle.std.specs.Prelude.{position}
-use Rattle.vx_bus_traits.specs.Bursts.{gets_steps}
-use Rattle.vx_bus_traits.specs.Walks.{Walk}
+use Rattle.vx_488.specs.Bursts.{gets_steps}
+use Rattle.vx_488.specs.Walks.{Walk}
 use Rattle.vx_sim.specs.Bench.{talks}
 use Rattle.vx_sim.specs.SimState.{SimState, Through}
 use Rattle.vx_sim.proofs.Giving.{bench-gives, gets-walk}

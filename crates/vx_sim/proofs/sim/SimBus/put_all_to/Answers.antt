@@ -1,8 +1,8 @@
 use Rattle.std.proofs.Common.{◌+◌, ◌≡◌, ◌&&◌, ◌==◌, Bool, length, get_or, arith}
 use Rattle.vx_488.specs.declared.transfers.Transfer.TheVariants.{Put}
-use Rattle.vx_bus_traits.specs.declared.asks.Move.TheVariants as answer
-use Rattle.vx_bus_traits.specs.Steps.{move_step}
-use Rattle.vx_bus_traits.proofs.Laws.Puts.{puts-held, puts-failed, puts-next, last-then, last-else}
+use Rattle.vx_488.specs.declared.asks.Move.TheVariants as answer
+use Rattle.vx_488.specs.Steps.{move_step}
+use Rattle.vx_488.proofs.Laws.Puts.{puts-held, puts-failed, puts-next, last-then, last-else}
 use Rattle.vx_sim.specs.SimState.{Through}
 use Rattle.vx_sim.proofs.Stepping.{steps-to}
 use Rattle.vx_sim.proofs.sim.SimBus.put_all_to.Goals.{then-end, else-end}

@@ -1,5 +1,5 @@
 use Rattle.std.proofs.Common.{◌≡◌, length, ◌-◌}
-use Rattle.vx_bus_traits.specs.Bursts.{PutsSoFar}
+use Rattle.vx_488.specs.Bursts.{PutsSoFar}
 use Rattle.vx_sim.specs.Bench.{listens}
 use Rattle.vx_sim.specs.Finding.{indices}
 use Rattle.vx_sim.specs.SimState.{Through}

@@ -1,8 +1,8 @@
 use Rattle.std.proofs.Common.{take, ◌≡◌, ◌<◌, ◌∷◌, [], length, ap, ◌∙◌, subst, arith}
 use Rattle.vx_488.specs.declared.transfers.Transfer.TheVariants.{Put}
 use Rattle.vx_488.specs.Listening.{has_address}
-use Rattle.vx_bus_traits.specs.Bursts.{ended}
-use Rattle.vx_bus_traits.specs.Bursts.{PutsSoFar}
+use Rattle.vx_488.specs.Bursts.{ended}
+use Rattle.vx_488.specs.Bursts.{PutsSoFar}
 use Rattle.vx_sim.specs.Bench.{listens, PlaceTakes}
 use Rattle.vx_sim.specs.Finding.{indices}
 use Rattle.vx_sim.specs.Shown.{AtPlace}

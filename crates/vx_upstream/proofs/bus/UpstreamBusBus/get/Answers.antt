@@ -1,5 +1,5 @@
 use Rattle.std.proofs.Common.{sym, subst, arith}
-use Rattle.vx_bus_traits.specs.Steps.{get_step}
+use Rattle.vx_488.specs.Steps.{get_step}
 use Rattle.vx_upstream.specs.Sending.{words_of}
 use Rattle.vx_upstream.specs.Stepping.{Through}
 use Rattle.vx_upstream.proofs.Bursting.{walk-one-get}

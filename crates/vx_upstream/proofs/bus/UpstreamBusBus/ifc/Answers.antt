@@ -1,7 +1,7 @@
 use Rattle.std.proofs.Common.{subst, sym}
 use Rattle.vx_488.specs.declared.transfers.Transfer.TheVariants.{Ifc}
-use Rattle.vx_bus_traits.specs.Steps.{move_step, IsStepped}
-use Rattle.vx_bus_traits.specs.declared.asks.Move.{Move}
+use Rattle.vx_488.specs.Steps.{move_step, IsStepped}
+use Rattle.vx_488.specs.declared.asks.Move.{Move}
 use Rattle.vx_upstream.specs.Sending.{words_of}
 use Rattle.vx_upstream.specs.Stepping.{Through}
 use Rattle.vx_upstream.proofs.Clearing.{clear-stepped, clear-through}

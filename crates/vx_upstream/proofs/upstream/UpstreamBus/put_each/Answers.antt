@@ -1,5 +1,5 @@
 use Rattle.std.proofs.Common.{◌+◌, ◌≡◌, ◌&&◌, ◌==◌, Bool, length, arith}
-use Rattle.vx_bus_traits.proofs.Laws.Puts.{puts-held, puts-failed, puts-next, last-then, last-else}
+use Rattle.vx_488.proofs.Laws.Puts.{puts-held, puts-failed, puts-next, last-then, last-else}
 use Rattle.vx_upstream.specs.Sending.{words_of}
 use Rattle.vx_upstream.specs.Stepping.{Through}
 use Rattle.vx_upstream.proofs.upstream.UpstreamBus.put_each.Goals.{then-end, else-end}

@@ -1,5 +1,5 @@
 use Rattle.std.proofs.Common.{length, ◌-◌}
-use Rattle.vx_bus_traits.specs.Bursts.{PutsSoFar}
+use Rattle.vx_488.specs.Bursts.{PutsSoFar}
 use Rattle.vx_upstream.specs.Sending.{words_of}
 use Rattle.vx_upstream.specs.Stepping.{Through}
 use Rattle.vx_upstream.proofs.upstream.UpstreamBus.put_each.Given as goal

@@ -1,6 +1,6 @@
 use Rattle.std.proofs.Common.{◌≡◌, ℕ, List, length, take, sym, ap, ◌∙◌, subst}
 use Rattle.vx_calls.specs.declared.calls.Proc.TheVariants as proc
-use Rattle.vx_bus_traits.specs.Bursts.{StopsAt}
+use Rattle.vx_488.specs.Bursts.{StopsAt}
 use Rattle.vx_client.specs.Sizes.{bytes_told}
 use Rattle.vx_upstream.specs.UpstreamState.{UpstreamState}
 use Rattle.vx_upstream.specs.Answering.{bytes_come}

@@ -1,10 +1,10 @@
 use Rattle.std.proofs.Common.{◌≡◌, ℕ, ◌+◌, ◌<◌, ◌&&◌, ◌==◌, length, map, take, get_or, refl, ap, ◌∙◌, arith}
 use Rattle.vx_488.specs.declared.transfers.Transfer.{Transfer}
 use Rattle.vx_488.specs.declared.transfers.Transfer.TheVariants.{Got}
-use Rattle.vx_bus_traits.specs.declared.asks.Ask.TheVariants as ask
-use Rattle.vx_bus_traits.specs.declared.asks.Move.TheVariants as answer
-use Rattle.vx_bus_traits.specs.Steps.{Went, Held, Failed, move_step}
-use Rattle.vx_bus_traits.specs.Bursts.{ended, refused_get}
+use Rattle.vx_488.specs.declared.asks.Ask.TheVariants as ask
+use Rattle.vx_488.specs.declared.asks.Move.TheVariants as answer
+use Rattle.vx_488.specs.Steps.{Went, Held, Failed, move_step}
+use Rattle.vx_488.specs.Bursts.{ended, refused_get}
 use Rattle.vx_upstream.specs.UpstreamState.{UpstreamState, Kept, after, past}
 use Rattle.vx_upstream.proofs.Bursting.{told-next, told-refused, told-came}
 use Rattle.vx_upstream.proofs.upstream.UpstreamBus.told_gets.Goals as goal

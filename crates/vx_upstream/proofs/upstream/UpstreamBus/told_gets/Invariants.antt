@@ -1,7 +1,7 @@
 use Rattle.std.proofs.Common.{◌≡◌, ◌+◌, ◌-◌, ◌≤◌, length, map, take}
 use Rattle.vx_488.specs.declared.transfers.Transfer.TheVariants.{Got}
-use Rattle.vx_bus_traits.specs.Steps.{Went}
-use Rattle.vx_bus_traits.specs.Bursts.{ended}
+use Rattle.vx_488.specs.Steps.{Went}
+use Rattle.vx_488.specs.Bursts.{ended}
 use Rattle.vx_upstream.specs.UpstreamState.{past}
 use Rattle.vx_upstream.proofs.upstream.UpstreamBus.told_gets.Given as goal
 

@@ -1,8 +1,8 @@
 use Rattle.std.proofs.Common.{◌≡◌, ◌+◌, ◌<◌, ◌&&◌, ◌==◌, length, get_or, refl, sym, ap, ◌∙◌, arith}
 use Rattle.vx_488.specs.declared.transfers.Transfer.{Transfer}
 use Rattle.vx_488.specs.declared.transfers.Transfer.TheVariants.{Put}
-use Rattle.vx_bus_traits.specs.declared.asks.Move.TheVariants as answer
-use Rattle.vx_bus_traits.specs.Steps.{move_step}
+use Rattle.vx_488.specs.declared.asks.Move.TheVariants as answer
+use Rattle.vx_488.specs.Steps.{move_step}
 use Rattle.vx_upstream.specs.UpstreamState.{UpstreamState, Kept, after}
 use Rattle.vx_upstream.proofs.Bursting.{told-next, told-last, told-all, beside}
 use Rattle.vx_upstream.proofs.upstream.UpstreamBus.told_puts.Goals as goal

@@ -1,6 +1,6 @@
 use Rattle.std.proofs.Common.{length, ◌-◌}
-use Rattle.vx_bus_traits.specs.Bursts.{PutsSoFar}
-use Rattle.vx_bus_traits.proofs.bus.Bus.put_many.Given as goal
+use Rattle.vx_488.specs.Bursts.{PutsSoFar}
+use Rattle.vx_488.proofs.bus.Bus.put_many.Given as goal
 
 abbrev pub invariant-loop-moved : goal.invariant-loop-moved
 invariant-loop-moved g l = PutsSoFar g.Self.Bus.means g.Self.Bus.through l.bytes l.end l.moved l.initial.self l.self

@@ -2,15 +2,16 @@
 ghost use Rattle.std.specs.Prelude.{◌≡◌, ◌<◌, ◌≤◌, ◌+◌, ◌↔◌, ℕ, Bool, length, take, drop};
 ghost use Rattle.vx_488.specs.declared.transfers.TheConstants.{ADDRESS_MAX};
 ghost use Rattle.vx_488.specs.declared.transfers.Transfer.TheVariants.{Cmd, Put, Ifc, Own};
-ghost use Rattle.vx_bus_traits.specs.Means.{Means};
-ghost use Rattle.vx_bus_traits.specs.Steps.{Step, Told, Cut, move_step, get_step, line_transfer, IsStepped};
-ghost use Rattle.vx_bus_traits.specs.declared.asks.Move.TheVariants.{Went};
-ghost use Rattle.vx_bus_traits.specs.Walks.{Walk};
-ghost use Rattle.vx_bus_traits.specs.Bursts.{puts_steps, gets_steps, StopsAt};
+ghost use Rattle.vx_488.specs.Means.{Means};
+ghost use Rattle.vx_488.specs.Steps.{Step, Told, Cut, move_step, get_step, line_transfer, IsStepped};
+ghost use Rattle.vx_488.specs.declared.asks.Move.TheVariants.{Went};
+ghost use Rattle.vx_488.specs.Walks.{Walk};
+ghost use Rattle.vx_488.specs.Bursts.{puts_steps, gets_steps, StopsAt};
 
 use crate::asks::{ASK_MAX, GetOut, Move};
 use crate::bursts::{Many, ManyGot, Stop};
-use vx_488::{Line, Transfer, Wire};
+use crate::transfers::{Line, Transfer};
+use crate::wire::Wire;
 
 /// A bus of which the gateway is a controller. It is asked for one transfer at a time, or for a burst of data bytes; a
 /// transfer that it made is appended to its list and is part of its wire from then on.

@@ -5,11 +5,11 @@ use Rattle.std.proofs.lemmas.Bool.Decides.{nat_tests}
 use Rattle.std.proofs.lemmas.List.{map-append, append-nil}
 use Rattle.vx_488.specs.declared.transfers.Transfer.{Transfer}
 use Rattle.vx_488.specs.declared.transfers.Transfer.TheVariants.{Put}
-use Rattle.vx_bus_traits.specs.declared.asks.Move.TheVariants as answer
-use Rattle.vx_bus_traits.specs.Means.{Means}
-use Rattle.vx_bus_traits.specs.Steps.{Step, Went, Held, Failed, ask_for, move_step, Path}
-use Rattle.vx_bus_traits.specs.Walks.{StepsTo, Walk}
-use Rattle.vx_bus_traits.specs.Bursts.{ended, refused_put, puts_steps, PutsSoFar}
+use Rattle.vx_488.specs.declared.asks.Move.TheVariants as answer
+use Rattle.vx_488.specs.Means.{Means}
+use Rattle.vx_488.specs.Steps.{Step, Went, Held, Failed, ask_for, move_step, Path}
+use Rattle.vx_488.specs.Walks.{StepsTo, Walk}
+use Rattle.vx_488.specs.Bursts.{ended, refused_put, puts_steps, PutsSoFar}
 
 -- one path after another
 pub path-append : {B : Type 0} (through : B → Step → B → Type 0) (old next new : B) (xs ys : List Step)

@@ -4,7 +4,7 @@ use Rattle.std.specs.Prelude.{ℕ, List, [], Option, None}
 use Rattle.vx_488.specs.declared.transfers.Transfer.{Transfer}
 use Rattle.vx_488.specs.declared.wire.Wire.{Wire}
 use Rattle.vx_488.specs.Wire.{first_wire}
-use Rattle.vx_bus_traits.specs.declared.asks.Ask.{Ask}
+use Rattle.vx_488.specs.declared.asks.Ask.{Ask}
 
 pub record Means : Type 0 where
   -- what the transfers so far mean for the lines and addresses

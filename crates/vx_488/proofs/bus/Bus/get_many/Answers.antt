@@ -1,10 +1,10 @@
 use Rattle.std.proofs.Common.{Bool, subst, sym, ◌∙◌, arith}
 use Rattle.std.proofs.lemmas.List.{length-set}
 use Rattle.vx_488.specs.declared.transfers.Transfer.TheVariants.{Got}
-use Rattle.vx_bus_traits.specs.Steps.{Went}
-use Rattle.vx_bus_traits.specs.Walks.{StepsTo}
-use Rattle.vx_bus_traits.proofs.Laws.Gets.{gets-held, gets-failed, gets-end, gets-char, gets-next, char-is}
-use Rattle.vx_bus_traits.proofs.bus.Bus.get_many.Goals as goal
+use Rattle.vx_488.specs.Steps.{Went}
+use Rattle.vx_488.specs.Walks.{StepsTo}
+use Rattle.vx_488.proofs.Laws.Gets.{gets-held, gets-failed, gets-end, gets-char, gets-next, char-is}
+use Rattle.vx_488.proofs.bus.Bus.get_many.Goals as goal
 
 pub returns-in-Held-clause-walk : goal.returns-in-Held-clause-walk
 returns-in-Held-clause-walk g c =

@@ -1,4 +1,4 @@
-use vx_488::Transfer;
+use crate::transfers::Transfer;
 
 /// The most asks that a bus takes between two cuts.
 pub const ASK_MAX: u32 = 65552;
@@ -46,7 +46,7 @@ pub enum Ask {
 
 impl From<Transfer> for Ask {
     ghost use Rattle.std.specs.Prelude.{◌≡◌};
-    ghost use Rattle.vx_bus_traits.specs.Steps.{ask_for};
+    ghost use Rattle.vx_488.specs.Steps.{ask_for};
 
     ghost from_gives = { λ t asked. asked ≡ ask_for t };
 

@@ -1,6 +1,6 @@
 use Rattle.std.proofs.Common.{length, ◌-◌}
-use Rattle.vx_bus_traits.proofs.Laws.Gets.{GetsSoFar}
-use Rattle.vx_bus_traits.proofs.bus.Bus.get_many.Given as goal
+use Rattle.vx_488.proofs.Laws.Gets.{GetsSoFar}
+use Rattle.vx_488.proofs.bus.Bus.get_many.Given as goal
 
 abbrev pub invariant-loop-got : goal.invariant-loop-got
 invariant-loop-got g l = GetsSoFar g.Self.Bus.means g.Self.Bus.through l.stop l.got l.initial.room l.room l.initial.self l.self

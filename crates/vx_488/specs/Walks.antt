@@ -1,8 +1,8 @@
 -- To be believed.
 -- A bus that goes through steps, each with what it changes of its meaning.
 use Rattle.std.specs.Prelude.{List}
-use Rattle.vx_bus_traits.specs.Means.{Means}
-use Rattle.vx_bus_traits.specs.Steps.{Step, IsStepped, Path}
+use Rattle.vx_488.specs.Means.{Means}
+use Rattle.vx_488.specs.Steps.{Step, IsStepped, Path}
 
 -- one step: the bus changes as it names, and its meaning as every bus's does
 abbrev pub StepsTo : {B : Type 0} → (B → Means) → (B → Step → B → Type 0) → B → Step → B → Type 0

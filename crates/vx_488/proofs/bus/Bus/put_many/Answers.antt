@@ -1,7 +1,7 @@
 use Rattle.std.proofs.Common.{◌+◌, ◌≡◌, ◌&&◌, ◌==◌, Bool, length, arith}
-use Rattle.vx_bus_traits.proofs.Laws.Puts.{puts-held, puts-failed, puts-next, last-then, last-else}
-use Rattle.vx_bus_traits.proofs.bus.Bus.put_many.Goals.{then-end, else-end}
-use Rattle.vx_bus_traits.proofs.bus.Bus.put_many.Goals as goal
+use Rattle.vx_488.proofs.Laws.Puts.{puts-held, puts-failed, puts-next, last-then, last-else}
+use Rattle.vx_488.proofs.bus.Bus.put_many.Goals.{then-end, else-end}
+use Rattle.vx_488.proofs.bus.Bus.put_many.Goals as goal
 
 pub returns-in-Held-clause-walk : goal.returns-in-Held-clause-walk
 returns-in-Held-clause-walk g c =

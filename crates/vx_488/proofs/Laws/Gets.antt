@@ -6,15 +6,15 @@ use Rattle.std.proofs.lemmas.Bool.Decides.{nat_tests}
 use Rattle.std.proofs.lemmas.List.{map-append, append-nil}
 use Rattle.std.proofs.lemmas.List.Folds.{list_any-append}
 use Rattle.vx_488.specs.declared.transfers.Transfer.TheVariants.{Got}
-use Rattle.vx_bus_traits.specs.declared.asks.Ask.TheVariants as ask
-use Rattle.vx_bus_traits.specs.declared.asks.GetOut.TheVariants as get
-use Rattle.vx_bus_traits.specs.declared.bursts.Stop.{Stop}
-use Rattle.vx_bus_traits.specs.declared.bursts.Stop.TheVariants as stop
-use Rattle.vx_bus_traits.specs.Means.{Means}
-use Rattle.vx_bus_traits.specs.Steps.{Step, Went, Held, Failed, get_step}
-use Rattle.vx_bus_traits.specs.Walks.{StepsTo, Walk}
-use Rattle.vx_bus_traits.specs.Bursts.{ended, gets_steps, is_char, IsClear, StopsAt}
-use Rattle.vx_bus_traits.proofs.Laws.Puts.{path-append}
+use Rattle.vx_488.specs.declared.asks.Ask.TheVariants as ask
+use Rattle.vx_488.specs.declared.asks.GetOut.TheVariants as get
+use Rattle.vx_488.specs.declared.bursts.Stop.{Stop}
+use Rattle.vx_488.specs.declared.bursts.Stop.TheVariants as stop
+use Rattle.vx_488.specs.Means.{Means}
+use Rattle.vx_488.specs.Steps.{Step, Went, Held, Failed, get_step}
+use Rattle.vx_488.specs.Walks.{StepsTo, Walk}
+use Rattle.vx_488.specs.Bursts.{ended, gets_steps, is_char, IsClear, StopsAt}
+use Rattle.vx_488.proofs.Laws.Puts.{path-append}
 
 -- one more byte, with END or not, behind bytes without
 pub ended-behind : (end : Bool) (bs : List ℕ) (b : ℕ) → ended Got end (bs ++ b ∷ []) ≡ ended Got false bs ++ Got b end ∷ []
