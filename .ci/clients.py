@@ -4,9 +4,9 @@
     clients.py MAPPER SERVER
 
 `rpcinfo` calls the mapper over TCP and over UDP, lists its table, and has it say where the server is, which it then calls; lxi-tools and
-pyvisa-py find the server through it. Once that server has `examples/bench.txt`, and once its bus is behind a server that has it. lxi-tools
-asks for the device `inst0`, which these servers don't have, so of it no more is looked for than that it asked the mapper. With Debian
-these are the packages `rpcbind`, `lxi-tools`, `python3-pyvisa` and `python3-pyvisa-py`. A client that isn't installed is passed over
+pyvisa-py find the server through it, and ask an instrument who it is. Once that server has `examples/bench.txt`, and once its bus is
+behind a server that has it. lxi-tools asks for the device `inst0`, and so does pyvisa-py where none is named: the server has that name
+for the instrument. With Debian these are the packages `rpcbind`, `lxi-tools`, `python3-pyvisa` and `python3-pyvisa-py`. A client that isn't installed is passed over
 with a word. What goes wrong, and at last 'N passed, M failed, L left out', goes to standard error; the status is 1 where something
 went wrong.
 
@@ -27,6 +27,7 @@ from serving import Server, Taken
 BENCH = pathlib.Path(__file__).resolve().parent.parent / "examples/bench.txt"
 PORT = 111  # the mapper's
 PYTHONS = (sys.executable, "/usr/bin/python3")  # that of this test, and the system's
+NAMES = ("--name", "inst0=gpib0,5")  # what clients ask for by themselves
 IDENTITY = "ACME,TABLE,1,1.0"  # what the instrument at 5 of that bench says of itself
 
 
@@ -49,7 +50,7 @@ class WellKnown(Mapper):
 
 def with_the_bench(server):
     """The server of the example's bench."""
-    return Server([server], BENCH.read_bytes(), stderr=subprocess.DEVNULL)
+    return Server([server, *NAMES], BENCH.read_bytes(), stderr=subprocess.DEVNULL)
 
 
 @contextlib.contextmanager
@@ -57,7 +58,7 @@ def behind_a_box(server):
     """A server whose bus is behind that one."""
     with with_the_bench(server) as box:
         upstream = ("--upstream", HOST, str(box.ports[0]), "gpib0")
-        with Server([server, *upstream], b"", stderr=subprocess.DEVNULL) as served:
+        with Server([server, *upstream, *NAMES], b"", stderr=subprocess.DEVNULL) as served:
             yield served
 
 
@@ -115,7 +116,7 @@ def rpcinfo_finds_the_server(serving, mapper, server):
 def lxi_tools(serving, mapper, server):
     lxi = installed("lxi")
     with serving(server) as served, WellKnown(mapper, "stream", 1, served.ports) as mapped:
-        subprocess.run([lxi, "scpi", "--address", HOST, "*IDN?"], capture_output=True, timeout=PATIENCE)
+        assert said_by(lxi, "scpi", "--address", HOST, "*IDN?").strip() == IDENTITY
         mapped.expect_served(1)
 
 
@@ -123,13 +124,14 @@ def pyvisa(serving, mapper, server):
     python = python_with("pyvisa", "pyvisa_py")
     asks = f"""
 import pyvisa
-device = pyvisa.ResourceManager("@py").open_resource("TCPIP::{HOST}::gpib0,5::INSTR", open_timeout=60000)
-device.timeout = 60000
-device.write_termination = device.read_termination = chr(10)
-print(device.query("*IDN?"))
+for name in ("gpib0,5::INSTR", "INSTR"):
+    device = pyvisa.ResourceManager("@py").open_resource("TCPIP::{HOST}::" + name, open_timeout=60000)
+    device.timeout = 60000
+    device.write_termination = device.read_termination = chr(10)
+    print(device.query("*IDN?"))
 """
     with serving(server) as served, WellKnown(mapper, "stream", 1000, served.ports):
-        assert said_by(python, "-c", asks).strip() == IDENTITY
+        assert said_by(python, "-c", asks).split() == [IDENTITY] * 2
 
 
 def of_each_server(case):

@@ -5,6 +5,9 @@ from sockets.calls import call, create, created, reply
 from sockets.server import BENCH, Server
 
 
+USAGE = "usage: vxgate OPTIONS\n"
+
+
 def refused(*options, bench=BENCH, ports=None):
     """What a server prints that doesn't come up, and its status."""
     process = Server(*options, bench=bench).start(*ports or free_ports(2))
@@ -14,7 +17,10 @@ def refused(*options, bench=BENCH, ports=None):
 
 def refused_starts():
     """Words, benches and ports that it refuses: what it prints, and its status."""
-    assert refused("--workers", "65") == ("usage: vxgate OPTIONS\n", 1)
+    assert refused("--workers", "65") == (USAGE, 1)
+    assert refused("--name", "inst0") == (USAGE, 1)
+    assert refused("--name", "inst0=gpib0,5", "--name", "inst0=gpib0,7") == (USAGE, 1)
+    assert refused("--name", "i" * 256 + "=gpib0,5") == (USAGE, 1)
     assert refused(bench="at 1\n") == ("fault line 1 form\n", 2)
     assert refused(bench="# a bench\nplug 5 echo\nplug 5 meter\n") == ("fault line 3 taken\n", 2)
     with bound() as taken:

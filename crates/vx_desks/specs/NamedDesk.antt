@@ -38,3 +38,7 @@ named_ways ways = record {
   aborts = λ s xid lid reply s'. NamedAborts ways s xid lid reply s';
   leaves = λ s s'. NamedLeaves ways s s';
 }
+
+-- the ways of a desk whose calls are read so before they come to it
+abbrev pub read_ways : {D : Type 0} → (Call → Call) → Ghosts D → Ghosts D
+read_ways reads ways = record ways { asks = λ s xid call reply s'. ways.asks s xid (reads call) reply s' }

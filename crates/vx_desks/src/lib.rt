@@ -14,12 +14,12 @@ mod joining;
 mod leaving;
 mod named;
 mod named_laws;
+mod named_links;
 mod routes;
 mod ruled;
 mod ruled_laws;
 mod ruled_links;
 mod ruled_sessions;
-mod table;
 
 pub use asking::FleetWorker;
 pub use fleet::{Gates, GatesRefused, Passes};
@@ -28,12 +28,13 @@ pub use fleet_links::{LinkServer, many_link};
 pub use fleet_sessions::{many_abort, many_session};
 pub use named::Named;
 pub use named_laws::names_law;
+pub use named_links::named_link;
 pub use routes::{Count, fewer_law, four_law, global, local};
 pub use ruled::Ruled;
 pub use ruled_links::{Gateway, Guarded, Kit, guarded_link};
 pub use ruled_sessions::{GuardEnd, GuardRoom, guarded_session};
-pub use table::{NAMES_MAX, NameRefused, NameTable};
 use vx_core::Core;
+pub use vx_policy::{NAMES_MAX, NameRefused, NameTable};
 
 /// Four gateways, each behind a gate of its own.
 pub type Buses<B> = Gates<Core<B>>;
@@ -44,6 +45,6 @@ pub type BusPass<B> = Passes<Core<B>>;
 /// There was no memory for the gates. Four gateways come back, to whose histories no group was added.
 pub type BusesRefused<B> = GatesRefused<Core<B>>;
 
-/// There was no memory for a table of names, or for the room of a guarded session.
+/// There was no memory for the room of a guarded session.
 #[derive(Clone, Copy, Debug, PartialEq, Eq)]
 pub struct NoMemory;

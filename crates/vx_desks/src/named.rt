@@ -1,10 +1,10 @@
 //! A desk that knows devices by names as well.
 ghost use Rattle.vx_desks.specs.NamedDesk.{NamedJoins, NamedAsks, NamedAborts, NamedLeaves};
 
-use crate::table::NameTable;
 use std::alloc::Global;
 use vx_calls::{CallRef, Role};
 use vx_core::Connect;
+use vx_policy::NameTable;
 use vx_session::{Desk, Request};
 
 /// A desk with a table of names. It does all as the desk below it, but that there the device text of a create_link is what the table

@@ -1,3 +1,4 @@
+-- To be believed.
 -- Cutting a line into its words, and an address into its parts.
 use Rattle.std.specs.Prelude.{◌≡◌, ◌≤◌, ℕ, ◌+◌, ◌==◌, List, [], ◌∷◌, take, drop, decimal, Option, Some, option_map, option_and_then, find, position}
 use Rattle.std.specs.Str.{bytes_eq}

@@ -3,6 +3,7 @@ pub mod Reading
 pub mod Judging
 pub mod Cutting
 pub mod Laws
+pub mod Names
 pub mod Targets
 pub mod Texts
 pub use Rattle.vx_calls.specs.Target

@@ -34,7 +34,7 @@ EndsSilent why sink sink' how = (sink' ≡ sink) × (how ≡ why)
 
 -- by what they ask, where they don't ask to serve
 abbrev pub EndsUnserved : Asked → End → End → ServerStatus → Type 0
-EndsUnserved (asked.Serve o) sink sink' how = ⊥
+EndsUnserved (asked.Serve o names) sink sink' how = ⊥
 EndsUnserved (asked.Tell text) sink sink' how = PutsLast status.Told (string_bytes text) sink sink' how
 EndsUnserved asked.Usage sink sink' how = PutsLast status.Usage relay_usage_line sink sink' how
 EndsUnserved asked.NoMemory sink sink' how = EndsSilent status.NoMemory sink sink' how
@@ -85,11 +85,11 @@ pub record EndsAtOpening {L : Type 0} (w : LinkWords L) (link : L) (place : Plac
 
 -- ---- all steps
 
--- each was done, and the server has these options and its bus
-pub record IsRelayReady {L : Type 0} (w : LinkWords L) (link : L) (words : List (List ℕ)) (source source' : End) (o : Options) : Type 0 where
+-- each was done, and the server has these options, these names and its bus
+pub record IsRelayReady {L : Type 0} (w : LinkWords L) (link : L) (words : List (List ℕ)) (source source' : End) (o : Options) (names : List (List ℕ × List ℕ)) : Type 0 where
   pub place : Place
   pub rest : List (List ℕ)
   pub is : IsPlace words place rest
-  pub asks : ServerAnswers rest (asked.Serve o)
+  pub asks : ServerAnswers rest (asked.Serve o names)
   pub bench : HasNoBench source source'
   pub opens : Opens w link place o.patience (Ok tt)

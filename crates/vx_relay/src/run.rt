@@ -20,6 +20,7 @@ use crate::words::{Upstream, place_of};
 use std::alloc::Global;
 use std::sync::Wait;
 use vx_io_traits::{Listen, Net, Reach, Sink, Source, Spawner, Streams};
+use vx_policy::NameTable;
 use vx_script::Cause;
 use vx_serve::{Ended, Host, ServeBus, serve_bus};
 use vx_session::{Tally, Tools};
@@ -33,19 +34,19 @@ use vx_upstream::UpstreamBus;
 /// The line of words that have no form that the server knows.
 const USAGE: &[u8] = b"usage: vxgate --upstream HOST PORT [NAME] OPTIONS\n";
 
-/// The options that the words behind a box set, or how the server ends that they don't ask to serve.
+/// The options and the names that the words behind a box set, or how the server ends that they don't ask to serve.
 fn options_of<K: Sink>(
     alloc: Global,
     words: &[String],
     sink: &mut K,
-) -> Result<Options, ServerStatus>
-    ensures set { IfOk result (λ o. ServerAnswers (map string_bytes words.now) (Serve o)) }
-    ensures silent { IfOk result (λ o. IsQuiet (sink_shown K.Sink sink.old) (sink_shown K.Sink sink.new)) }
+) -> Result<(Options, NameTable), ServerStatus>
+    ensures set { IfOk result (λ r. ServerAnswers (map string_bytes words.now) (Serve r.0 r.1)) }
+    ensures silent { IfOk result (λ r. IsQuiet (sink_shown K.Sink sink.old) (sink_shown K.Sink sink.new)) }
     ensures early { IfErr result (λ how. EndsAtWords (map string_bytes words.now)
         (sink_shown K.Sink sink.old) (sink_shown K.Sink sink.new) how) }
 {
     match read_words(alloc, words) {
-        Asked::Serve(options) => Ok(options),
+        Asked::Serve(options, names) => Ok((options, names)),
         Asked::Tell(text) => Err(put_last(sink, text.as_bytes(), ServerStatus::Told)),
         Asked::Usage => Err(put_last(sink, USAGE, ServerStatus::Usage)),
         Asked::NoMemory => Err(ServerStatus::NoMemory),
@@ -105,7 +106,7 @@ fn open_bus<L: Reach + Drop, K: Sink>(
     }
 }
 
-/// Reads the words, and the bench, in which nothing may stand, and takes the box's bus: the options of a server and that bus. Or how the
+/// Reads the words, and the bench, in which nothing may stand, and takes the box's bus: the options of a server, its names and that bus. Or how the
 /// server ends that doesn't come to its ports; the line that is due then was written.
 fn prepare<S: Source, K: Sink, L: Reach + Drop>(
     alloc: Global,
@@ -113,10 +114,10 @@ fn prepare<S: Source, K: Sink, L: Reach + Drop>(
     bench: &mut S,
     link: L,
     sink: &mut K,
-) -> Result<(Options, UpstreamBus<L>), ServerStatus>
+) -> Result<(Options, NameTable, UpstreamBus<L>), ServerStatus>
     ensures range { IfOk result (λ r. IsServerInRange r.0) }
-    ensures fresh { IfOk result (λ r. r.1.kept.means ≡ first_means) }
-    ensures ready { IfOk result (λ r. IsRelayReady (words_of L.Link L.refused L.tries) link (map string_bytes words.now) (source_shown S.Source bench.old) (source_shown S.Source bench.new) r.0) }
+    ensures fresh { IfOk result (λ r. r.2.kept.means ≡ first_means) }
+    ensures ready { IfOk result (λ r. IsRelayReady (words_of L.Link L.refused L.tries) link (map string_bytes words.now) (source_shown S.Source bench.old) (source_shown S.Source bench.new) r.0 r.1) }
     ensures silent { IfOk result (λ r. IsQuiet (sink_shown K.Sink sink.old) (sink_shown K.Sink sink.new)) }
     ensures early { IfErr result (λ how. Early (RelayEnds (words_of L.Link L.refused L.tries) link (map string_bytes words.now) (source_shown S.Source bench.old) (source_shown S.Source bench.new))
         (sink_shown K.Sink sink.old) (sink_shown K.Sink sink.new) how) }
@@ -124,10 +125,10 @@ fn prepare<S: Source, K: Sink, L: Reach + Drop>(
     let Some((upstream, rest)) = place_of(words) else {
         return Err(put_last(sink, USAGE, ServerStatus::Usage));
     };
-    let options = options_of(alloc, rest, sink)?;
+    let (options, names) = options_of(alloc, rest, sink)?;
     no_bench(alloc, bench, sink)?;
     let bus = open_bus(alloc, link, upstream, options.patience, sink)?;
-    Ok((options, bus))
+    Ok((options, names, bus))
 }
 
 /// Does what the words ask.
@@ -156,7 +157,7 @@ where
     ensures same { (host.new.net.ghost_name ≡ host.old.net.ghost_name) × (host.new.spawner.ghost_name ≡ host.old.spawner.ghost_name) × (host.new.sink.ghost_name ≡ host.old.sink.ghost_name) }
 {
     match prepare(host.alloc, words, bench, link, host.sink) {
-        Ok((options, bus)) => serve_bus(host, options, bus),
+        Ok((options, names, bus)) => serve_bus(host, options, names, bus),
         Err(status) => Ended::early(status),
     }
 }
@@ -170,7 +171,7 @@ where
 /// met in this order.
 ///
 /// - 0, `listening CORE ABORT` and `served N`: as there. `--help` and `--version` are told with this status too.
-/// - 1, `usage: vxgate --upstream HOST PORT [NAME] OPTIONS`: the words are refused; nothing else was touched.
+/// - 1, `usage: vxgate --upstream HOST PORT [NAME] OPTIONS`: the words are refused, or a name among them; nothing else was touched.
 /// - 2, `fault line 1 form` or `fault long`: there is a bench. Or `fault upstream STEP`, the step for which the bus isn't had: `reach`,
 ///   nobody answers at that host and port; `link`, the interface isn't given, or isn't locked; `clear`, `remote` or `address`, the box
 ///   doesn't clear its interface, switch remote enable off, or go to address 0. Where the box answered an error, its number stands

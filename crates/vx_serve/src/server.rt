@@ -15,6 +15,7 @@ use std::sync::Wait;
 use vx_488::Bus;
 use vx_inst::Instrument;
 use vx_io_traits::{Net, Sink, Source, Spawner, Streams};
+use vx_policy::NameTable;
 use vx_rack::Spare;
 use vx_session::{Tally, Tools};
 use vx_sim::SimBus;
@@ -182,6 +183,7 @@ fn serve_gate<
     host: &mut Host<'_, '_, '_, '_, '_, R, N, W, X, K>,
     options: Options,
     port: N::Port,
+    names: NameTable,
     bus: B,
 ) -> Ended
 where
@@ -197,15 +199,15 @@ where
         result.tally result.status }
     ensures same { (host.new.net.ghost_name ≡ host.old.net.ghost_name) × (host.new.spawner.ghost_name ≡ host.old.spawner.ghost_name) × (host.new.sink.ghost_name ≡ host.old.sink.ghost_name) }
 {
-    match GateAccess::start(host.alloc, bus, options.abort) {
+    match GateAccess::start(host.alloc, bus, options.abort, names) {
         Ok(access) => serve_open::<R, N, X, GateAccess<B>, J, W, K>(host, options, port, access),
         Err(_) => Ended::early(ServerStatus::NoMemory),
     }
 }
 
-/// What a server does that has its options and its bus, of which nobody asked anything yet: it opens the core port and binds the abort
-/// port, starts its workers, each over a pass of the one gate round a gateway over the bus, and then takes core links and hands them
-/// to the workers. It ends as [`serve_run`] says of the statuses 0 and 3 to 6.
+/// What a server does that has its options, the names that its clients know devices by, and its bus, of which nobody asked anything
+/// yet: it opens the core port and binds the abort port, starts its workers, each over a pass of the one gate round a gateway over the
+/// bus, and then takes core links and hands them to the workers. It ends as [`serve_run`] says of the statuses 0 and 3 to 6.
 pub fn serve_bus<
     R: Wait,
     N: Net,
@@ -213,7 +215,12 @@ pub fn serve_bus<
     X: Tools + Logs,
     K: Sink,
     B: Bus + Drop,
->(host: &mut Host<'_, '_, '_, '_, '_, R, N, W, X, K>, options: Options, bus: B) -> Ended
+>(
+    host: &mut Host<'_, '_, '_, '_, '_, R, N, W, X, K>,
+    options: Options,
+    names: NameTable,
+    bus: B,
+) -> Ended
 where
     N::Port: Drop,
     Peer<N>: Placed + Drop,
@@ -228,7 +235,7 @@ where
 {
     match open_ports(host.net, options.core, options.abort) {
         Some(port) => {
-            serve_gate::<R, N, X, B, ServeBus<N, X, B>, W, K>(host, options, port, bus)
+            serve_gate::<R, N, X, B, ServeBus<N, X, B>, W, K>(host, options, port, names, bus)
         }
         None => Ended::early(ServerStatus::NetFailed),
     }
@@ -263,7 +270,7 @@ where
     let prepared = prepare(host.alloc, words, bench, &mut rack, host.sink);
     drop(rack);
     match prepared {
-        Ok((options, bus)) => serve_bus(host, options, bus),
+        Ok((options, names, bus)) => serve_bus(host, options, names, bus),
         Err(status) => Ended::early(status),
     }
 }
@@ -276,7 +283,7 @@ where
 ///
 /// - 0, `listening CORE ABORT` and `served N`: N core links were taken, the limit or as many as the net gave, and each came to its
 ///   end. `--help` and `--version` are told with this status too.
-/// - 1, `usage: vxgate OPTIONS`: the words are refused; nothing else was touched.
+/// - 1, `usage: vxgate OPTIONS`: the words are refused, or a name among them; nothing else was touched.
 /// - 2, `fault line N CAUSE` or `fault long`: a line of the bench, counted from 1, is refused, or it has more than 1,048,576 bytes.
 /// - 3: the net failed.
 /// - 4: the spawner refused a worker, before the first link was taken.

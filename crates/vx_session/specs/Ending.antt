@@ -10,7 +10,7 @@ use Rattle.vx_488.specs.Steps.{Cut}
 use Rattle.vx_gate.specs.History.{groups}
 use Rattle.vx_gate.specs.PassView.{PassView}
 use Rattle.vx_record.specs.Records.{records}
-use Rattle.vx_exchange.specs.Meaning.{meaning, Junk}
+use Rattle.vx_exchange.specs.Meaning.{Meaning, Junk}
 use Rattle.vx_group.specs.Event.{Down}
 use Rattle.vx_group.specs.Claims.{Claims}
 use Rattle.vx_group.specs.Groups.{Group, events_of}
@@ -41,10 +41,10 @@ pub record Holding (L : Type 0) : Type 0 where
   pub link : L
   pub dial : DialShown
 
--- A session on a connection of this role: the records that it served, in their order; the bytes `front` that it looked at, and
+-- A session on a connection of this role, by what a message means there: the records that it served, in their order; the bytes `front` that it looked at, and
 -- those that it received behind them, fewer than it receives at once; the replies, of which the link took `written`; and the end of
 -- the connection, its last group. It received more only where it had written the replies to all records that had come, whole.
-pub record SessionDid {B L : Type 0} (g : Origin B) (ways : Ghosts L) (clocked : List Placed → Type 0) (told : ℕ) (r : Role) (conn : ℕ) (before : Holding L) (how : End) (after : Holding L) : Type 0 where
+pub record SessionDid {B L : Type 0} (means : List ℕ → Role → Meaning) (g : Origin B) (ways : Ghosts L) (clocked : List Placed → Type 0) (told : ℕ) (r : Role) (conn : ℕ) (before : Holding L) (how : End) (after : Holding L) : Type 0 where
   pub items : List Item
   pub last : Placed
   pub front : List ℕ
@@ -53,7 +53,7 @@ pub record SessionDid {B L : Type 0} (g : Origin B) (ways : Ghosts L) (clocked :
   pub unsent : List ℕ
   -- the groups that the pass added: those of the records, in order, and the end of the connection
   pub makes : Makes told before.pass (placed items ++ last ∷ []) after.pass
-  pub each : All (SessionServes g before.pass.number conn r) items
+  pub each : All (SessionServes means g before.pass.number conn r) items
   pub down : last.group.events ≡ Down conn ∷ []
   pub cut : last.group.steps ≡ Cut ∷ []
   -- the bytes that came and went
@@ -63,7 +63,7 @@ pub record SessionDid {B L : Type 0} (g : Origin B) (ways : Ghosts L) (clocked :
   pub near : length behind < PIECE
   pub in_turn : InTurn ways RECORD_MAX (answered items) before.link (front ++ behind) written after.link
   -- why it ended: a message without a reply is junk
-  pub ended : EndsSo (λ message. meaning message r ≡ Junk) (link_shown ways before.link) (answered items) (records RECORD_MAX front) behind unsent (link_shown ways after.link) (Some how)
+  pub ended : EndsSo (λ message. means message r ≡ Junk) (link_shown ways before.link) (answered items) (records RECORD_MAX front) behind unsent (link_shown ways after.link) (Some how)
   -- the calls of the clock and of the dial for the groups of the records
   pub asks : clocked (placed items)
   pub rings : Rings before.dial (placed items) (calls items) after.dial

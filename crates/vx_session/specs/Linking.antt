@@ -4,6 +4,7 @@ use Rattle.std.specs.Prelude.{◌≡◌, ℕ, List, [], Ok, Err}
 use Rattle.vx_calls.specs.declared.calls.Role.{Role}
 use Rattle.vx_io_traits.specs.declared.links.Link.{Ghosts}
 use Rattle.vx_gate.specs.PassView.{PassView}
+use Rattle.vx_exchange.specs.Meaning.{Meaning}
 use Rattle.vx_state.specs.declared.tables.Connect.{Connect}
 use Rattle.vx_state.specs.declared.tables.Connect.TheVariants as connect
 use Rattle.vx_group.specs.Groups.{Group}
@@ -21,19 +22,19 @@ pub record Done (L : Type 0) : Type 0 where
   pub link : L
 
 -- a connection came up by the pass's first turn, and had its session
-pub record HadSession {B L : Type 0} (g : Origin B) (ways : Ghosts L) (clocked : List Placed → Type 0) (told : ℕ) (r : Role) (before : Holding L) (how : End) (after : Holding L) : Type 0 where
+pub record HadSession {B L : Type 0} (means : List ℕ → Role → Meaning) (g : Origin B) (ways : Ghosts L) (clocked : List Placed → Type 0) (told : ℕ) (r : Role) (before : Holding L) (how : End) (after : Holding L) : Type 0 where
   pub conn : ℕ
   pub up : PassView Group
   pub joins : Joins g before.pass r (Ok conn) up
-  pub did : SessionDid g ways clocked told r conn (record { pass = up; link = before.link; dial = before.dial }) how after
+  pub did : SessionDid means g ways clocked told r conn (record { pass = up; link = before.link; dial = before.dial }) how after
 
 -- The connection had its session; or it was refused, by one group without an event: the link is untouched, and all that is
 -- claimed of the history that the pass has seen holds too.
-abbrev pub LinkDid : {B L : Type 0} → Origin B → Ghosts L → (List Placed → Type 0) → ℕ → Role → Holding L → Linked → Holding L → Type 0
-LinkDid g ways clocked told r before (linked.Ended how) after = HadSession g ways clocked told r before how after
-LinkDid g ways clocked told r before linked.Full after =
+abbrev pub LinkDid : {B L : Type 0} → (means : List ℕ → Role → Meaning) → Origin B → Ghosts L → (List Placed → Type 0) → ℕ → Role → Holding L → Linked → Holding L → Type 0
+LinkDid means g ways clocked told r before (linked.Ended how) after = HadSession means g ways clocked told r before how after
+LinkDid means g ways clocked told r before linked.Full after =
     Joins g before.pass r (Err connect.Full) after.pass × (after.link ≡ before.link) × clocked [] × (after.dial ≡ before.dial) × Upholds g after.pass
-LinkDid g ways clocked told r before linked.NoMemory after =
+LinkDid means g ways clocked told r before linked.NoMemory after =
     Joins g before.pass r (Err connect.NoMemory) after.pass × (after.link ≡ before.link) × clocked [] × (after.dial ≡ before.dial) × Upholds g after.pass
 
 -- why a connection didn't come up, as its link is told

@@ -12,7 +12,7 @@ use Rattle.vx_calls.specs.Call.{Call}
 use Rattle.vx_gate.specs.PassView.{PassView}
 use Rattle.vx_group.specs.Groups.{Group, events_of}
 use Rattle.vx_group.specs.Poll.{Dialed}
-use Rattle.vx_exchange.specs.Meaning.{Meaning, meaning, Junk}
+use Rattle.vx_exchange.specs.Meaning.{Meaning, Junk}
 use Rattle.vx_stream.specs.Answered.{Answered}
 use Rattle.vx_session.specs.Origin.{Origin}
 use Rattle.vx_session.specs.Placing.{Placed, Makes}
@@ -112,6 +112,6 @@ pub record MeaningDoes {B C : Type 0} (g : Origin B) (tells : C → ℕ → C �
   pub later : s.told ≤ s'.told
   pub has : SessionHasReply g tells s m reply s'
 
--- what a message on the connection does
-abbrev pub MessageDoes : {B C : Type 0} → Origin B → (C → ℕ → C → Type 0) → SessionState C → List ℕ → Option (List ℕ) → SessionState C → Type 0
-MessageDoes g tells s message reply s' = MeaningDoes g tells s (meaning message s.role) reply s'
+-- what a message on the connection does, by what a message means on a connection of a role
+abbrev pub MessageDoes : {B C : Type 0} → (means : List ℕ → Role → Meaning) → Origin B → (C → ℕ → C → Type 0) → SessionState C → List ℕ → Option (List ℕ) → SessionState C → Type 0
+MessageDoes means g tells s message reply s' = MeaningDoes g tells s (means message s.role) reply s'

@@ -11,7 +11,7 @@ use Rattle.vx_calls.specs.Reply as reply
 use Rattle.vx_record.specs.Fragments.{record_of}
 use Rattle.vx_488.specs.Steps.{Told, Cut}
 use Rattle.vx_exchange.specs.Meaning as meant
-use Rattle.vx_exchange.specs.Meaning.{Meaning, Junk, Asks, Aborts, meaning, reply_record}
+use Rattle.vx_exchange.specs.Meaning.{Meaning, Junk, Asks, Aborts, reply_record}
 use Rattle.vx_stream.specs.Answered.{Answered}
 use Rattle.vx_group.specs.Event.{Abort}
 use Rattle.vx_group.specs.Poll as poll
@@ -93,6 +93,6 @@ IsSessionServed g number conn (meant.Answered message) placed calls out = (place
 IsSessionServed g number conn (Asks xid call) placed calls out = IsCalled g number conn xid call placed calls out
 IsSessionServed g number conn (Aborts xid lid) placed calls out = IsAborted conn xid lid placed calls out
 
--- a record on a connection of this role, served by the pass of this number
-abbrev pub SessionServes : {B : Type 0} → Origin B → (number conn : ℕ) → Role → Item → Type 0
-SessionServes g number conn r item = IsSessionServed g number conn (meaning item.answered.message r) item.placed item.calls item.answered.reply
+-- A record on a connection of this role, served by the pass of this number. `means` is what a message means on a connection of a role.
+abbrev pub SessionServes : {B : Type 0} → (means : List ℕ → Role → Meaning) → Origin B → (number conn : ℕ) → Role → Item → Type 0
+SessionServes means g number conn r item = IsSessionServed g number conn (means item.answered.message r) item.placed item.calls item.answered.reply

@@ -19,7 +19,7 @@ mod turns;
 pub use answering::answer_call;
 pub use attending::Attending;
 pub use desks::Desk;
-pub use links::{LinkDone, Linked, Tally, abort_link, core_link, serve_link};
+pub use links::{LinkDone, Linked, Tally, abort_link, core_link, serve_core_link, serve_link};
 pub use one_bus::OneBus;
 pub use pumps::{PumpEnd, pump};
 pub use samples::sample_turn;

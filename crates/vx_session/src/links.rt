@@ -2,6 +2,7 @@
 ghost use Rattle.std.specs.Prelude.{◌≡◌, ◌≤◌, ◌+◌, ◌-◌, ◌^◌, min};
 ghost use Rattle.vx_session.specs.Origin.{origin};
 ghost use Rattle.vx_calls.specs.declared.calls.Role.TheVariants as role;
+ghost use Rattle.vx_exchange.specs.Meaning.{meaning};
 ghost use Rattle.vx_door.specs.Going.{Went};
 ghost use Rattle.vx_session.specs.Desks.{DeskLink};
 ghost use Rattle.vx_session.specs.Dialing.{dial_shown, no_dial};
@@ -35,7 +36,7 @@ pub enum Linked {
     NoMemory,
 }
 
-/// A core link that was served, or refused. Only [`core_link`] makes one.
+/// A core link that was served, or refused. Only [`serve_core_link`] and [`core_link`] make one.
 #[derive(Drop)]
 pub struct LinkDone<L: Link> {
     how: Linked,
@@ -129,6 +130,24 @@ pub fn serve_link<R: Wait, K: Desk, L: Link>(
     }
 }
 
+/// Serves a core link at a desk, as [`serve_link`] does.
+pub fn serve_core_link<R: Wait, K: Desk, L: Link>(
+    rt: &R,
+    alloc: Global,
+    desk: K,
+    link: L,
+    room: &mut Room,
+) -> (K, LinkDone<L>)
+    requires free { K.free desk }
+    ensures did { DeskLink K.Desk L.Link role.Core (record { server = desk; link = link }) result.1.how (record { server = result.0; link = result.1.link }) }
+    ensures went { Went L.receives L.sends link result.1.link }
+    ensures free { K.free result.0 }
+{
+    let mut link = link;
+    let (desk, how) = serve_link(rt, alloc, desk, Role::Core, &mut link, room);
+    (desk, LinkDone { how, link })
+}
+
 /// A link at the desk of one bus, of the worker's role. A connection that comes up has a number of its own.
 fn run_link<R: Wait, B: Bus, T: Turns<Core<B>>, L: Link, C: Clock, P: Pause, D: Dial>(
     alloc: Global,
@@ -141,7 +160,7 @@ fn run_link<R: Wait, B: Bus, T: Turns<Core<B>>, L: Link, C: Clock, P: Pause, D: 
     room: &mut Room,
 ) -> (Pass<Core<B>>, Linked)
     requires gate { pass.gate ≡ T.gate worker.now.turns.now }
-    ensures did { LinkDid (origin B.Bus (T.first worker.now.turns.now)) L.Link (ClockedAs worker.now.role C.tells clock.old clock.new) (C.told clock.new) worker.now.role (record { pass = pass; link = link.old; dial = dial_shown D.Dial dial.old })
+    ensures did { LinkDid meaning (origin B.Bus (T.first worker.now.turns.now)) L.Link (ClockedAs worker.now.role C.tells clock.old clock.new) (C.told clock.new) worker.now.role (record { pass = pass; link = link.old; dial = dial_shown D.Dial dial.old })
         result.1 (record { pass = result.0; link = link.new; dial = dial_shown D.Dial dial.new }) }
     ensures told { C.told clock.old ≤ C.told clock.new }
 {
@@ -173,7 +192,7 @@ pub fn core_link<R: Wait, B: Bus, T: Turns<Core<B>>, L: Link, C: Clock, P: Pause
     room: &mut Room,
 ) -> (Pass<Core<B>>, LinkDone<L>)
     requires gate { pass.gate ≡ T.gate turns.now }
-    ensures did { LinkDid (origin B.Bus (T.first turns.now)) L.Link (Clocked C.tells clock.old clock.new) (C.told clock.new) role.Core (record { pass = pass; link = link; dial = dial_shown D.Dial dial.old })
+    ensures did { LinkDid meaning (origin B.Bus (T.first turns.now)) L.Link (Clocked C.tells clock.old clock.new) (C.told clock.new) role.Core (record { pass = pass; link = link; dial = dial_shown D.Dial dial.old })
         result.1.how (record { pass = result.0; link = result.1.link; dial = dial_shown D.Dial dial.new }) }
     ensures told { C.told clock.old ≤ C.told clock.new }
 {
@@ -198,7 +217,7 @@ pub fn abort_link<R: Wait, B: Bus, T: Turns<Core<B>>, L: Link>(
     room: &mut Room,
 ) -> (Pass<Core<B>>, Linked)
     requires gate { pass.gate ≡ T.gate turns.now }
-    ensures { LinkDid (origin B.Bus (T.first turns.now)) L.Link unclocked 0 role.Abort (record { pass = pass; link = link.old; dial = no_dial })
+    ensures { LinkDid meaning (origin B.Bus (T.first turns.now)) L.Link unclocked 0 role.Abort (record { pass = pass; link = link.old; dial = no_dial })
         result.1 (record { pass = result.0; link = link.new; dial = no_dial }) }
 {
     let worker = Worker {

@@ -3,6 +3,7 @@ ghost use Rattle.std.specs.Prelude.{◌≡◌, ◌≤◌, None, Some};
 ghost use Rattle.vx_session.specs.Origin.{origin};
 ghost use Rattle.vx_calls.specs.declared.limits.TheConstants.{RECORD_MAX};
 ghost use Rattle.vx_calls.specs.declared.calls.Role.TheVariants as role;
+ghost use Rattle.vx_exchange.specs.Meaning.{meaning};
 ghost use Rattle.vx_group.specs.Phases.{Idle};
 ghost use Rattle.vx_session.specs.Turning.{phase_at};
 ghost use Rattle.vx_door.specs.Going.{Went};
@@ -144,7 +145,7 @@ fn run_session<R: Wait, B: Bus, T: Turns<Core<B>>, L: Link, C: Clock, P: Pause, 
 ) -> (Pass<Core<B>>, End)
     requires gate { pass.gate ≡ T.gate worker.now.turns.now }
     requires phase { phase_at pass worker.now.conn ≡ Idle worker.now.role }
-    ensures did { SessionDid (origin B.Bus (T.first worker.now.turns.now)) L.Link (ClockedAs worker.now.role C.tells clock.old clock.new) (C.told clock.new) worker.now.role worker.now.conn (record { pass = pass; link = link.old; dial = dial_shown D.Dial dial.old })
+    ensures did { SessionDid meaning (origin B.Bus (T.first worker.now.turns.now)) L.Link (ClockedAs worker.now.role C.tells clock.old clock.new) (C.told clock.new) worker.now.role worker.now.conn (record { pass = pass; link = link.old; dial = dial_shown D.Dial dial.old })
         result.1 (record { pass = result.0; link = link.new; dial = dial_shown D.Dial dial.new }) }
     ensures told { C.told clock.old ≤ C.told clock.new }
 {
@@ -178,7 +179,7 @@ pub fn core_session<R: Wait, B: Bus, T: Turns<Core<B>>, L: Link, C: Clock, P: Pa
 ) -> (Pass<Core<B>>, End)
     requires gate { pass.gate ≡ T.gate turns.now }
     requires phase { phase_at pass conn ≡ Idle role.Core }
-    ensures did { SessionDid (origin B.Bus (T.first turns.now)) L.Link (Clocked C.tells clock.old clock.new) (C.told clock.new) role.Core conn (record { pass = pass; link = link.old; dial = dial_shown D.Dial dial.old })
+    ensures did { SessionDid meaning (origin B.Bus (T.first turns.now)) L.Link (Clocked C.tells clock.old clock.new) (C.told clock.new) role.Core conn (record { pass = pass; link = link.old; dial = dial_shown D.Dial dial.old })
         result.1 (record { pass = result.0; link = link.new; dial = dial_shown D.Dial dial.new }) }
     ensures told { C.told clock.old ≤ C.told clock.new }
 {
@@ -202,7 +203,7 @@ pub fn abort_session<R: Wait, B: Bus, T: Turns<Core<B>>, L: Link>(
 ) -> (Pass<Core<B>>, End)
     requires gate { pass.gate ≡ T.gate turns.now }
     requires phase { phase_at pass conn ≡ Idle role.Abort }
-    ensures did { SessionDid (origin B.Bus (T.first turns.now)) L.Link unclocked 0 role.Abort conn (record { pass = pass; link = link.old; dial = no_dial })
+    ensures did { SessionDid meaning (origin B.Bus (T.first turns.now)) L.Link unclocked 0 role.Abort conn (record { pass = pass; link = link.old; dial = no_dial })
         result.1 (record { pass = result.0; link = link.new; dial = no_dial }) }
 {
     let worker = Worker {

@@ -14,9 +14,10 @@ use Rattle.clap.specs.declared.error.kind.ErrorKind.{ErrorKind}
 use Rattle.clap.specs.declared.error.kind.ErrorKind.TheVariants as kind
 use Rattle.clap.specs.declared.parser.matches.Found.{Found}
 use Rattle.clap.proofs.WalkLemmas.{first_value-rows}
+use Rattle.vx_policy.specs.Names.{names_with_all}
 use Rattle.vx_startup.specs.Form.{vxgate}
-use Rattle.vx_startup.specs.Meant.{ServerAnswers, Sets, given, is_set, number_of, refused, rows, taken, told, verdict, verdict_of}
-use Rattle.vx_startup.specs.Parts.{HasFlag, HasNumber, Refuses}
+use Rattle.vx_startup.specs.Meant.{ServerAnswers, Sets, given, is_set, name_texts, names_given, number_of, refused, rows, taken, told, verdict, verdict_of}
+use Rattle.vx_startup.specs.Parts.{HasFlag, HasNumber, Refuses, Serves}
 use Rattle.vx_startup.specs.declared.words.Options.{Options}
 use Rattle.vx_startup.specs.declared.words.Asked.{Asked}
 use Rattle.vx_startup.specs.declared.words.Asked.TheVariants as asked
@@ -38,6 +39,21 @@ pub found_rows : (words : List Text) (found : List Row) (o : Options) → found 
 unfolding rows
 found_rows words found o same sets = subst (λ (r : List Row). Sets r o) same sets
 
+-- and so are the names
+names_found : (words : List Text) (found : List Row) (r : Option (List (Text × Text))) → found ≡ matches_of vxgate words
+    → names_with_all [] (name_texts found) ≡ r → names_given words ≡ r
+unfolding rows
+names_found words found r same given = subst (λ (rs : List Row). names_with_all [] (name_texts rs) ≡ r) same given
+
+-- what a parse found is answered
+pub served : (words : List Text) (found : List Row) (a : Asked) → found ≡ matches_of vxgate words → fault_of vxgate words ≡ []
+    → Serves found a → ServerAnswers words a
+served words found (asked.Serve o names) same none s =
+    ((all_taken words none, found_rows words found o same s.0), s.1, names_found words found (Some names) same s.2)
+served words found (asked.Tell text) same none s = absurd s
+served words found asked.Usage same none s = inr (all_taken words none, names_found words found None same s)
+served words found asked.NoMemory same none s = tt
+
 by_kind : (words : List Text) (k : ErrorKind) → IsAmong k (fault_of vxgate words) → verdict words ≡ verdict_of (k ∷ [])
 unfolding verdict
 by_kind words k among = ap verdict_of (only_kind words k among)
@@ -45,13 +61,13 @@ by_kind words k among = ap verdict_of (only_kind words k among)
 -- an error of the kind that the words give, or for want of memory, is answered
 pub answered : (words : List Text) (k : ErrorKind) (a : Asked) → Refuses k a → (k ≡ kind.OutOfMemory) ⊎ IsAmong k (fault_of vxgate words)
     → ServerAnswers words a
-answered words k (asked.Serve o) none why = absurd none
+answered words k (asked.Serve o names) none why = absurd none
 answered words k (asked.Tell text) asks (inl memory) =
     let bad : refused ≡ told = ap (λ (x : ErrorKind). verdict_of (x ∷ [])) (sym memory) ∙ asks in
     absurd cc
 answered words k (asked.Tell text) asks (inr among) = by_kind words k among ∙ asks
 answered words k asked.Usage refuses (inl memory) = absurd (refuses.1 memory)
-answered words k asked.Usage refuses (inr among) = by_kind words k among ∙ refuses.0
+answered words k asked.Usage refuses (inr among) = inl (by_kind words k among ∙ refuses.0)
 answered words k asked.NoMemory free why = tt
 
 -- the number that a getter read

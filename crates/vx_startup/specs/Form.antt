@@ -1,9 +1,10 @@
 -- To be believed.
--- The command `vxgate` as `clap` sees it: ten options, each with one number for its value, and two flags.
+-- The command `vxgate` as `clap` sees it: ten options, each with one number for its value, two flags, and an option that may be given
+-- again and again, each time with one text.
 use Rattle.std.specs.Prelude.{ℕ, List, [], ◌∷◌, ◌++◌, Some, true, codes}
 use Rattle.clap.specs.Walk.{Rule, Text}
 use Rattle.clap.specs.Simple.{App, new_app, new_rule, on_top, with_rule}
-use Rattle.clap.specs.declared.builder.action.ArgAction.TheVariants.{Set, SetTrue}
+use Rattle.clap.specs.declared.builder.action.ArgAction.TheVariants.{Append, Set, SetTrue}
 use Rattle.clap.specs.declared.builder.value_parser.ValueParser.TheVariants.{Bool, Unsigned}
 
 -- the option `--NAME NUMBER`, where the number lies from `least` to `most`, and is `usual` where the option is left out
@@ -24,6 +25,14 @@ flag name = record (new_rule name) {
   parser = Some Bool;
 }
 
+-- the option `--NAME TEXT`, which may be given again and again
+abbrev pub text_option : Text → Rule
+text_option name = record (new_rule name) {
+  long = Some name;
+  action = Some Append;
+  value_names = 1;
+}
+
 -- two ports, milliseconds, threads, and a number of connections
 abbrev pub serving : List Rule
 serving =
@@ -34,8 +43,8 @@ serving =
     ∷ number_option (codes "limit") (codes "0") 0 1000000
     ∷ []
 
--- seconds that peers are waited for, up to a day, or 0 for no end; milliseconds that a box is waited for; and the flags of the log
--- and of the port mapper
+-- seconds that peers are waited for, up to a day, or 0 for no end; milliseconds that a box is waited for; the flags of the log and of
+-- the port mapper; and names for devices
 abbrev pub timing : List Rule
 timing =
     number_option (codes "keepalive") (codes "120") 0 86400
@@ -45,6 +54,7 @@ timing =
     ∷ number_option (codes "patience") (codes "10") 1 1000
     ∷ flag (codes "log")
     ∷ flag (codes "map")
+    ∷ text_option (codes "name")
     ∷ []
 
 abbrev pub options : List Rule

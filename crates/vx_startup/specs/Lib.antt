@@ -11,6 +11,7 @@ pub use Rattle.vx_io_traits.specs.Faults
 pub use Rattle.vx_text.specs.Ends
 pub use Rattle.vx_text.specs.Reading
 pub use Rattle.vx_text.specs.Writing
+pub use Rattle.vx_policy.specs.Names
 pub use Rattle.vx_sim.specs.Means
 pub use Rattle.vx_sim.specs.SimState
 pub use Rattle.vx_script.specs.Cause

@@ -1,14 +1,15 @@
 -- To be believed.
 -- What words mean to the server.
-use Rattle.std.specs.Prelude.{◌≡◌, ◌≤◌, ℕ, ⊤, Bool, false, List, [], ◌∷◌, Option, Some, option_map, codes}
+use Rattle.std.specs.Prelude.{◌≡◌, ◌⊎◌, ◌≤◌, ℕ, ⊤, Bool, false, List, [], ◌∷◌, Option, Some, None, option_map, unwrap_or, codes}
 use Rattle.std.specs.Option.{option_map_or}
 use Rattle.std.specs.Str.{bytes_eq}
 use Rattle.std.specs.Str.Parse.{digits_value, without_leading_plus}
-use Rattle.clap.specs.Walk.{Row, Text, first_of}
+use Rattle.clap.specs.Walk.{Row, Text, all_of, first_of}
 use Rattle.clap.specs.Simple.{matches_of}
 use Rattle.clap.specs.Kinds.{Kinds}
 use Rattle.clap.specs.Faults.{fault_of}
 use Rattle.clap.specs.declared.error.kind.ErrorKind.TheVariants as kind
+use Rattle.vx_policy.specs.Names.{names_with_all}
 use Rattle.vx_startup.specs.Form.{vxgate}
 use Rattle.vx_startup.specs.declared.words.Options.{Options}
 use Rattle.vx_startup.specs.declared.words.Asked.{Asked}
@@ -78,11 +79,19 @@ pub record IsServerInRange (o : Options) : Type 0 where
 abbrev pub IsSetBy : List Text → Options → Type 0
 IsSetBy words o = (verdict words ≡ taken) × Sets (rows words) o
 
+-- the texts that `--name` gives, in order
+abbrev pub name_texts : List Row → List Text
+name_texts found = unwrap_or (all_of (codes "name") found) []
+
+-- the names that words give, where each may be added behind those before it
+abbrev pub names_given : List Text → Option (List (Text × Text))
+names_given words = names_with_all [] (name_texts (rows words))
+
 -- the one answer that the words have, or want of memory
 abbrev pub ServerAnswers : List Text → Asked → Type 0
-ServerAnswers words (asked.Serve o) = IsSetBy words o × IsServerInRange o
+ServerAnswers words (asked.Serve o names) = IsSetBy words o × IsServerInRange o × (names_given words ≡ Some names)
 ServerAnswers words (asked.Tell text) = verdict words ≡ told
-ServerAnswers words asked.Usage = verdict words ≡ refused
+ServerAnswers words asked.Usage = (verdict words ≡ refused) ⊎ ((verdict words ≡ taken) × (names_given words ≡ None))
 ServerAnswers words asked.NoMemory = ⊤
 
 -- the options where no word sets one

@@ -1,4 +1,4 @@
--- A server before it comes to its ports: it is ready to go on with its options and its bus, or it ends.
+-- A server before it comes to its ports: it is ready to go on with its options, its names and its bus, or it ends.
 use Rattle.std.specs.Prelude.{◌≡◌, ℕ, List, Ok}
 use Rattle.vx_text.specs.Ends.{End}
 use Rattle.vx_text.specs.Reading.{IsInput}
@@ -23,9 +23,9 @@ abbrev pub IsBenchRead : Input → List SpareShown → Type 0
 IsBenchRead (input.Whole text) rack = IsBench text.items rack
 IsBenchRead _ rack = ⊥
 
--- The words ask to serve with these options, and the source gave a bench of which each line is set up.
-pub record IsServerReady (words : List (List ℕ)) (rack : List SpareShown) (source source' : End) (o : Options) : Type 0 where
-  pub asks : ServerAnswers words (asked.Serve o)
+-- The words ask to serve with these options and names, and the source gave a bench of which each line is set up.
+pub record IsServerReady (words : List (List ℕ)) (rack : List SpareShown) (source source' : End) (o : Options) (names : List (List ℕ × List ℕ)) : Type 0 where
+  pub asks : ServerAnswers words (asked.Serve o names)
   pub given : Input
   pub reads : IsInput BENCH_MAX source source' given
   pub bench : IsBenchRead given rack

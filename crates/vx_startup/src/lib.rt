@@ -1,8 +1,8 @@
 //! How a server starts and ends, told over plain values: its words, what these and its bench come to, the links that its net gives
 //! it, the lines that it prints, its exit status, and its log.
 //!
-//! The words are the options of `vxgate`, each a number in a range with a default, and two flags. They are read with `clap`, as one
-//! simple command. Nothing is printed there, and no memory is taken but `clap`'s.
+//! The words are the options of `vxgate`, each a number in a range with a default, two flags, and names for devices. They are read with
+//! `clap`, as one simple command. Nothing is printed there, and no memory is taken but `clap`'s and that of the table of names.
 #![tactic(auto)]
 
 mod command;

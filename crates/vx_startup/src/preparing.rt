@@ -19,6 +19,7 @@ use crate::words::{Asked, Options, read_words};
 use std::alloc::Global;
 use vx_inst::Instrument;
 use vx_io_traits::{Sink, Source};
+use vx_policy::NameTable;
 use vx_rack::Spare;
 use vx_setup::set_up;
 use vx_sim::SimBus;
@@ -27,19 +28,19 @@ use vx_text::{Input, read_all};
 /// The longest bench, in bytes.
 pub const BENCH_MAX: usize = 1_048_576;
 
-/// The options that words set, or how the server ends that they don't ask to serve.
+/// The options and the names that words set, or how the server ends that they don't ask to serve.
 fn options_of<K: Sink>(
     alloc: Global,
     words: &[String],
     sink: &mut K,
-) -> Result<Options, ServerStatus>
-    ensures set { IfOk result (λ o. ServerAnswers (map string_bytes words.now) (Serve o)) }
-    ensures silent { IfOk result (λ o. IsQuiet (sink_shown K.Sink sink.old) (sink_shown K.Sink sink.new)) }
+) -> Result<(Options, NameTable), ServerStatus>
+    ensures set { IfOk result (λ r. ServerAnswers (map string_bytes words.now) (Serve r.0 r.1)) }
+    ensures silent { IfOk result (λ r. IsQuiet (sink_shown K.Sink sink.old) (sink_shown K.Sink sink.new)) }
     ensures early { IfErr result (λ how. (rack : List SpareShown) (source : End) → Early (ServerEnds (map string_bytes words.now) rack source source)
         (sink_shown K.Sink sink.old) (sink_shown K.Sink sink.new) how) }
 {
     match read_words(alloc, words) {
-        Asked::Serve(options) => Ok(options),
+        Asked::Serve(options, names) => Ok((options, names)),
         Asked::Tell(text) => Err(put_last(sink, text.as_bytes(), ServerStatus::Told)),
         Asked::Usage => Err(put_last(sink, b"usage: vxgate OPTIONS\n", ServerStatus::Usage)),
         Asked::NoMemory => Err(ServerStatus::NoMemory),
@@ -90,26 +91,26 @@ fn bus_of<I: Instrument, K: Sink>(
     }
 }
 
-/// Reads the words, and then the bench to its end, and sets it up: the options of a server and its bus. Or how the server
-/// ends that doesn't come to its ports; the lines that are due then were written.
+/// Reads the words, and then the bench to its end, and sets it up: the options of a server, its names and its bus. Or how the
+/// server ends that doesn't come to its ports; the lines that are due then were written.
 pub fn prepare<S: Source, K: Sink, I: Instrument>(
     alloc: Global,
     words: &[String],
     bench: &mut S,
     rack: &mut Vec<Spare<I>>,
     sink: &mut K,
-) -> Result<(Options, SimBus<I>), ServerStatus>
+) -> Result<(Options, NameTable, SimBus<I>), ServerStatus>
     ensures range { IfOk result (λ r. IsServerInRange r.0) }
-    ensures fresh { IfOk result (λ r. r.1.means ≡ first_means) }
+    ensures fresh { IfOk result (λ r. r.2.means ≡ first_means) }
     ensures ready { IfOk result (λ r. IsServerReady (map string_bytes words.now) (map (spare_shown (handed_in (λ i. I.behaves i) (λ i. I.nature i))) rack.old.items)
-        (source_shown S.Source bench.old) (source_shown S.Source bench.new) r.0) }
+        (source_shown S.Source bench.old) (source_shown S.Source bench.new) r.0 r.1) }
     ensures silent { IfOk result (λ r. IsQuiet (sink_shown K.Sink sink.old) (sink_shown K.Sink sink.new)) }
     ensures early { IfErr result (λ how. Early (ServerEnds (map string_bytes words.now) (map (spare_shown (handed_in (λ i. I.behaves i) (λ i. I.nature i))) rack.old.items)
         (source_shown S.Source bench.old) (source_shown S.Source bench.new))
         (sink_shown K.Sink sink.old) (sink_shown K.Sink sink.new) how) }
 {
-    let options = options_of(alloc, words, sink)?;
+    let (options, names) = options_of(alloc, words, sink)?;
     let text = bench_of(alloc, bench, sink)?;
     let bus = bus_of(alloc, &text, rack, sink)?;
-    Ok((options, bus))
+    Ok((options, names, bus))
 }

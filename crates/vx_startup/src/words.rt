@@ -1,14 +1,17 @@
 //! What words ask of the server.
 
-ghost use Rattle.std.specs.Prelude.{◌≡◌, [], ◌∷◌, true, codes, map, string_bytes};
+ghost use Rattle.std.specs.Prelude.{◌≡◌, ◌≢◌, [], ◌∷◌, true, Err, IfOk, None, OnErr, OnOk, Some, codes, map, string_bytes};
 ghost use Rattle.clap.specs.Words.{found_of, kind_of, rows_of};
-ghost use Rattle.vx_startup.specs.Meant.{ServerAnswers, IsServerInRange, IsSetBy, Sets, refused, told, usual, verdict};
-ghost use Rattle.vx_startup.specs.Parts.{IsGiven, Refuses};
+ghost use Rattle.vx_policy.specs.Names.{names_with_all};
+ghost use Rattle.vx_policy.specs.declared.names.NameRefused.TheVariants as NameRefused;
+ghost use Rattle.vx_startup.specs.Meant.{ServerAnswers, IsServerInRange, IsSetBy, Sets, name_texts, names_given, refused, told, usual, verdict};
+ghost use Rattle.vx_startup.specs.Parts.{IsGiven, Refuses, Serves};
 
 use crate::command::vxgate;
 use clap::error::ErrorKind;
 use clap::{ArgMatches, Error};
 use std::alloc::Global;
+use vx_policy::{NameRefused, NameTable};
 
 /// What the words set.
 #[derive(Clone, Copy, PartialEq, Eq)]
@@ -44,11 +47,11 @@ pub struct Options {
 /// What words ask for.
 #[derive(Drop)]
 pub enum Asked {
-    /// To serve.
-    Serve(Options),
+    /// To serve with these options, and with these names for devices: one for each `--name`, in order.
+    Serve(Options, NameTable),
     /// To print this text of `--help` or `--version` on standard output.
     Tell(String),
-    /// Nothing: `clap` refuses them.
+    /// Nothing: `clap` refuses them, or the text of a `--name` gives no name that may be added to those before it.
     Usage,
     /// Memory ran out while they were read.
     NoMemory,
@@ -76,6 +79,45 @@ fn options_of(matches: &ArgMatches<'_>) -> Options
     }
 }
 
+/// Adds the names that texts give, in order.
+fn add_texts(names: &mut NameTable, texts: &[&str]) -> Result<(), NameRefused>
+    ensures added { OnOk result (names_with_all names.old (map (λ t. t.now) texts.now) ≡ Some names.new) }
+    ensures other { OnErr result ((result ≢ Err NameRefused.NoMemory)
+        → names_with_all names.old (map (λ t. t.now) texts.now) ≡ None) }
+{
+    for text in texts {
+        names.add_text(text.as_bytes())?;
+    }
+    Ok(())
+}
+
+/// The names that words give, or why one of them isn't added to those before it.
+fn names_of(alloc: Global, matches: &ArgMatches<'_>) -> Result<NameTable, NameRefused>
+    ensures given { IfOk result (λ names. names_with_all [] (name_texts (rows_of (found_of matches.now))) ≡ Some names) }
+    ensures other { OnErr result ((result ≢ Err NameRefused.NoMemory)
+        → names_with_all [] (name_texts (rows_of (found_of matches.now))) ≡ None) }
+{
+    let Ok(mut names) = NameTable::new(alloc) else {
+        return Err(NameRefused::NoMemory);
+    };
+    if let Some(texts) = matches.get_strs("name") {
+        add_texts(&mut names, texts)?;
+    }
+    Ok(names)
+}
+
+/// What is asked for where `clap` gives matches.
+fn served(alloc: Global, matches: &ArgMatches<'_>) -> Asked
+    requires { IsGiven (found_of matches.now) }
+    ensures { Serves (rows_of (found_of matches.now)) result }
+{
+    match names_of(alloc, matches) {
+        Ok(names) => Asked::Serve(options_of(matches), names),
+        Err(NameRefused::NoMemory) => Asked::NoMemory,
+        Err(_) => Asked::Usage,
+    }
+}
+
 /// What is asked for where `clap` gives no matches.
 fn refused(alloc: Global, error: &Error) -> Asked
     ensures { Refuses (kind_of error.now) result }
@@ -98,7 +140,7 @@ pub fn read_words(alloc: Global, words: &[String]) -> Asked
         return Asked::NoMemory;
     };
     match command.try_get_matches_from(words) {
-        Ok(matches) => Asked::Serve(options_of(&matches)),
+        Ok(matches) => served(alloc, &matches),
         Err(error) => refused(alloc, &error),
     }
 }
@@ -111,6 +153,9 @@ pub fn words_law()
         (record usual { keepalive = 0; send_timeout = 1; idle = 600; abort_idle = 86400 }) }
     ensures log { IsSetBy (codes "--log" ∷ []) (record usual { log = true }) }
     ensures map { IsSetBy (codes "--map" ∷ codes "--patience=1000" ∷ []) (record usual { patience = 1000; map = true }) }
+    ensures names { names_given (codes "--name" ∷ codes "inst0=gpib0,5" ∷ codes "--name=x=y=z" ∷ [])
+        ≡ Some ((codes "inst0", codes "gpib0,5") ∷ (codes "x", codes "y=z") ∷ []) }
+    ensures nameless { names_given (codes "--name=inst0" ∷ []) ≡ None }
     ensures impatient { verdict (codes "--patience=0" ∷ []) ≡ refused }
     ensures above { verdict (codes "--workers" ∷ codes "65" ∷ []) ≡ refused }
     ensures below { verdict (codes "--sample=0" ∷ []) ≡ refused }

@@ -36,8 +36,17 @@ static ADDED: [(&[u8], &[u8], Option<NameRefused>); 8] = [
     (b"", b"gpib0,7", None),
 ];
 
+// Texts that give a name, and why each is refused as they are added behind those.
+static GIVEN: [(&[u8], Option<NameRefused>); 5] = [
+    (b"scope=gpib0,9", None),
+    (b"x=y=z", None),
+    (b"scope", Some(NameRefused::Form)),
+    (b"", Some(NameRefused::Form)),
+    (b"inst0=gpib0,9", Some(NameRefused::Known)),
+];
+
 // Texts, and what each stands for then.
-static STANDS: [Pair; 8] = [
+static STANDS: [Pair; 10] = [
     (b"inst0", b"gpib0,5"),
     (b"inst1", b"inst0"),
     (b"inst2", LONGEST),
@@ -45,6 +54,8 @@ static STANDS: [Pair; 8] = [
     (TOO_LONG, TOO_LONG),
     (b"", b"gpib0,7"),
     (b"INST0", b"INST0"),
+    (b"scope", b"gpib0,9"),
+    (b"x", b"y=z"),
     (b"gpib0,5", b"gpib0,5"),
 ];
 
@@ -53,6 +64,9 @@ fn are_added(names: &mut NameTable) -> bool {
     let mut all = true;
     for (name, device, refused) in &ADDED {
         all &= names.add(name, device).err() == *refused;
+    }
+    for (text, refused) in &GIVEN {
+        all &= names.add_text(text).err() == *refused;
     }
     for (text, device) in &STANDS {
         all &= names.device_of(text) == *device;

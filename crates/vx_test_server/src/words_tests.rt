@@ -21,7 +21,7 @@ const USUAL: Options = Options {
 };
 
 /// Lines of words that ask to serve, and what each sets.
-static SERVED: [(&str, Options); 32] = [
+static SERVED: [(&str, Options); 36] = [
     // no word sets an option
     ("", USUAL),
     ("--", USUAL),
@@ -140,6 +140,14 @@ static SERVED: [(&str, Options); 32] = [
         },
     ),
     ("--map", Options { map: true, ..USUAL }),
+    // a name sets none
+    ("--name inst0=gpib0,5", USUAL),
+    ("--name=inst0=gpib0,5", USUAL),
+    ("--name inst0=gpib0,5 --name inst1=gpib0,5", USUAL),
+    (
+        "--name inst0=gpib0,5 --log --name=inst1=inst0",
+        Options { log: true, ..USUAL },
+    ),
     // all of them, in any order
     (
         "--core 1024 --abort 1025 --sample 250 --workers 4 --limit 7",
@@ -204,7 +212,7 @@ static SERVED: [(&str, Options); 32] = [
 ];
 
 /// Lines that are refused.
-static REFUSED: [&str; 46] = [
+static REFUSED: [&str; 57] = [
     // above or below a range
     "--core 0",
     "--core 65536",
@@ -245,7 +253,21 @@ static REFUSED: [&str; 46] = [
     "--idle 5 --idle 5",
     "--workers 4 --workers 4",
     "--core=1 --core 2",
+    // the text of a name has no `=`, or it is no text
+    "--name inst0",
+    "--name=",
+    "--name inst0=gpib0,5 --name inst1",
+    "--name",
+    "--name --log",
+    // a name twice
+    "--name inst0=gpib0,5 --name inst0=gpib0,5",
+    "--name inst0=gpib0,5 --name=inst1=gpib0,6 --name=inst0=gpib0,7",
+    // a number out of its range beside a name
+    "--name inst0=gpib0,5 --workers 65",
     // other words, and the program's name
+    "inst0=gpib0,5",
+    "--name inst0=gpib0,5 inst1=gpib0,6",
+    "--names inst0=gpib0,5",
     "--port 9010",
     "--work 4",
     "-w 4",
@@ -260,6 +282,66 @@ static REFUSED: [&str; 46] = [
     "--port --help",
 ];
 
+/// Lines that give names, a text, and what it stands for then.
+static NAMED: [(&str, &str, &str); 17] = [
+    // one name
+    ("--name inst0=gpib0,5", "inst0", "gpib0,5"),
+    ("--name=inst0=gpib0,5", "inst0", "gpib0,5"),
+    // a text that is no name
+    ("", "inst0", "inst0"),
+    ("--name inst0=gpib0,5", "inst1", "inst1"),
+    ("--name inst0=gpib0,5", "INST0", "INST0"),
+    ("--name inst0=gpib0,5", "gpib0,5", "gpib0,5"),
+    // two names, among other options
+    (
+        "--name inst0=gpib0,5 --name inst1=gpib0,6",
+        "inst0",
+        "gpib0,5",
+    ),
+    (
+        "--name inst0=gpib0,5 --name inst1=gpib0,6",
+        "inst1",
+        "gpib0,6",
+    ),
+    (
+        "--core 1 --name=inst0=gpib0,5 --log --name inst1=gpib0,6",
+        "inst0",
+        "gpib0,5",
+    ),
+    (
+        "--core 1 --name=inst0=gpib0,5 --log --name inst1=gpib0,6",
+        "inst1",
+        "gpib0,6",
+    ),
+    // what a name stands for isn't looked up again
+    ("--name inst1=inst0 --name inst0=gpib0,5", "inst1", "inst0"),
+    // two names of one device
+    (
+        "--name inst0=gpib0,5 --name inst1=gpib0,5",
+        "inst1",
+        "gpib0,5",
+    ),
+    // the first `=` ends the name
+    ("--name=x=y", "x", "y"),
+    ("--name=x=y=z", "x", "y=z"),
+    ("--name=x==", "x", "="),
+    // a name and a device may have no byte
+    ("--name=x=", "x", ""),
+    ("--name==gpib0", "", "gpib0"),
+];
+
+/// How many bytes a name and its device text have, and whether they are taken: each has at most 255.
+static LENGTHS: [(u32, u32, bool); 5] = [
+    (255, 1, true),
+    (1, 255, true),
+    (255, 255, true),
+    (256, 1, false),
+    (1, 256, false),
+];
+
+/// 65 names of one byte.
+const SHORT: &str = "ABCDEFGHIJKLMNOPQRSTUVWXYZabcdefghijklmnopqrstuvwxyz0123456789+-/";
+
 /// Lines that ask for the version.
 static VERSIONS: [&str; 2] = ["--version", "-V"];
 
@@ -270,7 +352,7 @@ const VERSION: &str = "vxgate 0.1.0\n";
 static HELPS: [&str; 4] = ["--help", "-h", "--workers 64 --help", "--help --port"];
 
 /// What the help tells, among others.
-static PARTS: [&str; 27] = [
+static PARTS: [&str; 29] = [
     "A VXI-11 gateway to a GPIB bus\n",
     "TCPIP::host::gpib0,5::INSTR",
     "Usage: vxgate [OPTIONS]\n",
@@ -294,6 +376,8 @@ static PARTS: [&str; 27] = [
     "--patience <MS>",
     "--log",
     "--map",
+    "--name <NAME=DEVICE>",
+    "inst0=gpib0,5",
     "vxgate < ",
     "vxgate --upstream HOST PORT [NAME] [OPTIONS] < ",
     "-h, --help",
@@ -309,7 +393,7 @@ fn asked(alloc: Global, line: &str) -> Result<Asked, AllocError> {
 /// Whether a line asks to serve with these options.
 fn is_served(alloc: Global, line: &str, options: &Options) -> Result<bool, AllocError> {
     match asked(alloc, line)? {
-        Asked::Serve(set) => Ok(set == *options),
+        Asked::Serve(set, _) => Ok(set == *options),
         _ => Ok(false),
     }
 }
@@ -320,6 +404,58 @@ fn is_refused(alloc: Global, line: &str) -> Result<bool, AllocError> {
         Asked::Usage => Ok(true),
         _ => Ok(false),
     }
+}
+
+/// Whether a line asks to serve, and by its names a text stands for this device.
+fn stands_for(alloc: Global, line: &str, text: &str, device: &str) -> Result<bool, AllocError> {
+    match asked(alloc, line)? {
+        Asked::Serve(_, names) => Ok(names.device_of(text.as_bytes()) == device.as_bytes()),
+        _ => Ok(false),
+    }
+}
+
+/// Puts a byte behind a line, so many times.
+fn push_often(line: &mut String, byte: char, count: u32) -> Result<(), AllocError> {
+    for _ in 0..count {
+        line.push(byte)?;
+    }
+    Ok(())
+}
+
+/// A line that gives a name of so many bytes to a device text of so many.
+fn long_line(alloc: Global, name: u32, device: u32) -> Result<String, AllocError> {
+    let mut line = String::from_str(alloc, "--name=")?;
+    push_often(&mut line, 'n', name)?;
+    line.push('=')?;
+    push_often(&mut line, 'd', device)?;
+    Ok(line)
+}
+
+/// Whether such a line is taken, and whether it is refused.
+fn long_is_so(alloc: Global, name: u32, device: u32) -> Result<(bool, bool), AllocError> {
+    let line = long_line(alloc, name, device)?;
+    Ok((is_served(alloc, &line, &USUAL)?, is_refused(alloc, &line)?))
+}
+
+/// A line of the first so many names of one byte, all for one device.
+fn many_line(alloc: Global, count: usize) -> Result<String, AllocError> {
+    let mut line = String::from_str(alloc, "--log")?;
+    for name in SHORT.chars().take(count) {
+        line.push_str(" --name=")?;
+        line.push(name)?;
+        line.push_str("=gpib0")?;
+    }
+    Ok(line)
+}
+
+/// Whether a line of so many names is taken, and whether it is refused.
+fn many_is_so(alloc: Global, count: usize) -> Result<(bool, bool), AllocError> {
+    let line = many_line(alloc, count)?;
+    let options = Options { log: true, ..USUAL };
+    Ok((
+        is_served(alloc, &line, &options)?,
+        is_refused(alloc, &line)?,
+    ))
 }
 
 /// The text that a line asks for; none where it asks for something else.
@@ -369,6 +505,29 @@ fn other_words_are_refused(rt: HostRuntime) {
         let is_so = is_refused(rt.alloc(), line);
         assert!(rt; is_so == Ok(true), "{line}");
     }
+}
+
+#[test]
+fn names_stand_for_devices(rt: HostRuntime) {
+    for (line, text, device) in &NAMED {
+        let is_so = stands_for(rt.alloc(), line, text, device);
+        assert!(rt; is_so == Ok(true), "{line}: {text}");
+    }
+}
+
+#[test]
+fn long_names_are_refused(rt: HostRuntime) {
+    for (name, device, taken) in &LENGTHS {
+        let is_so = long_is_so(rt.alloc(), *name, *device);
+        assert!(rt; is_so == Ok((*taken, !*taken)), "{name} and {device}");
+    }
+}
+
+// There may be 64 names.
+#[test]
+fn too_many_names_are_refused(rt: HostRuntime) {
+    assert!(rt; many_is_so(rt.alloc(), 64) == Ok((true, false)));
+    assert!(rt; many_is_so(rt.alloc(), 65) == Ok((false, true)));
 }
 
 #[test]

@@ -9,15 +9,18 @@ ghost use Rattle.vx_session.specs.Dialing.{dial_shown, no_dial};
 ghost use Rattle.vx_session.specs.Linking.{LinkDid};
 ghost use Rattle.vx_session.specs.Origin.{origin};
 ghost use Rattle.vx_session.specs.Progress.{Clocked, unclocked};
+ghost use Rattle.vx_workers.specs.ByNames.{means_on};
 ghost use Rattle.vx_workers.specs.Working.{Serving};
 
 use std::alloc::{AllocError, Global};
 use std::sync::{Arc, Wait};
 use vx_488::Bus;
 use vx_core::Core;
+use vx_desks::{Gateway, named_link};
 use vx_gate::{Gate, Pass};
 use vx_io_traits::{Clock, Dial, Link, Pause};
-use vx_session::{LinkDone, Linked, Room, abort_link, core_link, pump, sample_turn};
+use vx_policy::NameTable;
+use vx_session::{LinkDone, Linked, Room, abort_link, pump, sample_turn};
 
 /// The right of one worker to take turns at the gate of its server, in so many parts. What it does comes back with it.
 pub trait Access: Sized {
@@ -71,23 +74,30 @@ pub trait LinkAccess<L: Link>: Access {
             result.1 (record { access = result.0; link = link.new; dial = no_dial }) };
 }
 
-/// An access to a gate round a gateway over a bus: the gate, and a pass of it.
+/// An access to a gate round a gateway over a bus: the gate, a pass of it, and the names that its clients know devices by.
 #[derive(Drop)]
 pub struct GateAccess<B: Bus + Drop> {
     alloc: Global,
     gate: Arc<Gate<Core<B>>, Global>,
+    names: Arc<NameTable, Global>,
     pass: Pass<Core<B>>,
     ghost same: { pass.gate ≡ gate_of (arc_value gate) },
 }
 
 impl<B: Bus + Drop> GateAccess<B> {
-    /// A gateway over the bus, on which nobody asked anything yet, behind a gate, and the access with all parts of it.
-    pub fn start(alloc: Global, bus: B, abort_port: u16) -> Result<GateAccess<B>, AllocError>
+    /// A gateway over the bus, on which nobody asked anything yet, behind a gate, and the access with all parts of it, with these names.
+    pub fn start(
+        alloc: Global,
+        bus: B,
+        abort_port: u16,
+        names: NameTable,
+    ) -> Result<GateAccess<B>, AllocError>
         requires fresh { B.means bus ≡ first_means }
         requires port { 0 < abort_port }
         ensures parts { IfOk result (λ access. access.pass.parts ≡ 4294967296) }
         ensures begins { IfOk result (λ access. (access.pass.seen ≡ []) × (access.pass.own ≡ [])) }
         ensures first { IfOk result (λ access. ((first_of (arc_value access.gate)).interleaved ≡ first_interleaved abort_port) × ((first_of (arc_value access.gate)).bus ≡ bus)) }
+        ensures named { IfOk result (λ access. arc_value access.names ≡ names) }
     {
         let Ok(core) = Core::start(alloc, bus, abort_port) else {
             return Err(AllocError);
@@ -96,7 +106,13 @@ impl<B: Bus + Drop> GateAccess<B> {
             return Err(AllocError);
         };
         let gate = Arc::new(alloc, gate)?;
-        Ok(GateAccess { alloc, gate, pass })
+        let names = Arc::new(alloc, names)?;
+        Ok(GateAccess {
+            alloc,
+            gate,
+            names,
+            pass,
+        })
     }
 }
 
@@ -106,15 +122,28 @@ impl<B: Bus + Drop> Access for GateAccess<B> {
     ghost together = { λ access other. arc_value other.gate ≡ arc_value access.gate };
 
     fn part(self) -> Result<(GateAccess<B>, GateAccess<B>), AllocError> {
-        let GateAccess { alloc, gate, pass } = self;
-        let theirs = Arc::try_clone(&gate)?;
+        let GateAccess {
+            alloc,
+            gate,
+            names,
+            pass,
+        } = self;
+        let their_gate = Arc::try_clone(&gate)?;
+        let their_names = Arc::try_clone(&names)?;
         let (pass, other) = gate.part(pass);
         let theirs = GateAccess {
             alloc,
-            gate: theirs,
+            gate: their_gate,
+            names: their_names,
             pass: other,
         };
-        Ok((GateAccess { alloc, gate, pass }, theirs))
+        let own = GateAccess {
+            alloc,
+            gate,
+            names,
+            pass,
+        };
+        Ok((own, theirs))
     }
 
     fn pump<R: Wait, L: Link, P: Pause>(
@@ -125,24 +154,44 @@ impl<B: Bus + Drop> Access for GateAccess<B> {
         link: &mut L,
         pause: &mut P,
     ) -> GateAccess<B> {
-        let GateAccess { alloc, gate, pass } = self;
+        let GateAccess {
+            alloc,
+            gate,
+            names,
+            pass,
+        } = self;
         let (pass, _) = pump(rt, &*gate, pass, conn, chan, link, pause);
-        GateAccess { alloc, gate, pass }
+        GateAccess {
+            alloc,
+            gate,
+            names,
+            pass,
+        }
     }
 
     fn sample<R: Wait, C: Clock>(self, rt: &R, clock: &mut C) -> GateAccess<B> {
-        let GateAccess { alloc, gate, pass } = self;
+        let GateAccess {
+            alloc,
+            gate,
+            names,
+            pass,
+        } = self;
         let pass = sample_turn(rt, &*gate, pass, clock);
-        GateAccess { alloc, gate, pass }
+        GateAccess {
+            alloc,
+            gate,
+            names,
+            pass,
+        }
     }
 }
 
-impl<B: Bus + Drop, L: Link> LinkAccess<L> for GateAccess<B> {
-    // What is claimed of a link that is served at the gate.
-    ghost serves = { λ clocked told r before how after. LinkDid (origin B.Bus (first_of (arc_value before.access.gate))) L.Link clocked told r
+impl<B: Bus + Drop, L: Link + Drop> LinkAccess<L> for GateAccess<B> {
+    // What is claimed of a link that is served at the gate, where core connections know devices by the names.
+    ghost serves = { λ clocked told r before how after. LinkDid (means_on (arc_value before.access.names) r) (origin B.Bus (first_of (arc_value before.access.gate))) L.Link clocked told r
         (record { pass = before.access.pass; link = before.link; dial = before.dial }) how
         (record { pass = after.access.pass; link = after.link; dial = after.dial })
-        × (arc_value after.access.gate ≡ arc_value before.access.gate) };
+        × (arc_value after.access.gate ≡ arc_value before.access.gate) × (arc_value after.access.names ≡ arc_value before.access.names) };
 
     fn core_link<R: Wait, C: Clock, P: Pause, D: Dial>(
         self,
@@ -153,14 +202,41 @@ impl<B: Bus + Drop, L: Link> LinkAccess<L> for GateAccess<B> {
         dial: &mut D,
         room: &mut Room,
     ) -> (GateAccess<B>, LinkDone<L>) {
-        let GateAccess { alloc, gate, pass } = self;
-        let (pass, done) = core_link(rt, alloc, &*gate, pass, link, clock, pause, dial, room);
-        (GateAccess { alloc, gate, pass }, done)
+        let GateAccess {
+            alloc,
+            gate,
+            names,
+            pass,
+        } = self;
+        let gateway = Gateway {
+            rt,
+            alloc,
+            turns: &*gate,
+        };
+        let (pass, done) = named_link(&gateway, pass, &*names, link, clock, pause, dial, room);
+        let access = GateAccess {
+            alloc,
+            gate,
+            names,
+            pass,
+        };
+        (access, done)
     }
 
     fn abort_link<R: Wait>(self, rt: &R, link: &mut L, room: &mut Room) -> (GateAccess<B>, Linked) {
-        let GateAccess { alloc, gate, pass } = self;
+        let GateAccess {
+            alloc,
+            gate,
+            names,
+            pass,
+        } = self;
         let (pass, how) = abort_link(rt, alloc, &*gate, pass, link, room);
-        (GateAccess { alloc, gate, pass }, how)
+        let access = GateAccess {
+            alloc,
+            gate,
+            names,
+            pass,
+        };
+        (access, how)
     }
 }

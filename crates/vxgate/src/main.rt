@@ -139,7 +139,7 @@ fn reach_timeouts(patience: u32) -> ReachTimeouts {
 /// What the options say of it. Those that don't ask to serve say nothing: the server meets them itself.
 fn watch_of(alloc: Global, options: &[String]) -> Result<Watch, Unmade> {
     match read_words(alloc, options) {
-        Asked::Serve(options) => Ok(Watch {
+        Asked::Serve(options, _) => Ok(Watch {
             timeouts: Timeouts {
                 keepalive: options.keepalive,
                 send: options.send_timeout,

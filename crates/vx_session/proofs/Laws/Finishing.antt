@@ -9,6 +9,7 @@ use Rattle.vx_group.specs.Laws.{ClaimsOfGroupsLaw, OwnedLaw}
 use Rattle.vx_group.specs.Claims.{Claims}
 use Rattle.vx_group.specs.Groups.{Group, events_of}
 use Rattle.vx_stream.specs.declared.ends.End.{End}
+use Rattle.vx_exchange.specs.Meaning.{Meaning}
 use Rattle.vx_session.specs.Placing.{Placed, IsHistory}
 use Rattle.vx_session.specs.Progress.{placed}
 use Rattle.vx_session.specs.Ending.{Holding, Upholds, SessionDid}
@@ -25,10 +26,10 @@ upholds g claims owned pass h = record {
 }
 
 -- what a session did, of which less is said of its clock
-pub session-says : {B L : Type 0} (g : Origin B) (ways : Ghosts L) (clocked less : List Placed → Type 0) → ((groups : List Placed) → clocked groups → less groups)
+pub session-says : {B L : Type 0} (means : List ℕ → Role → Meaning) (g : Origin B) (ways : Ghosts L) (clocked less : List Placed → Type 0) → ((groups : List Placed) → clocked groups → less groups)
     → (told : ℕ) (r : Role) (conn : ℕ) (before : Holding L) (how : End) (after : Holding L)
-    → SessionDid g ways clocked told r conn before how after → SessionDid g ways less told r conn before how after
-session-says g ways clocked less so told r conn before how after did = record {
+    → SessionDid means g ways clocked told r conn before how after → SessionDid means g ways less told r conn before how after
+session-says means g ways clocked less so told r conn before how after did = record {
   items = did.items;
   last = did.last;
   front = did.front;
@@ -51,9 +52,9 @@ session-says g ways clocked less so told r conn before how after did = record {
 }
 
 -- and what a link's worker did
-pub link-says : {B L : Type 0} (g : Origin B) (ways : Ghosts L) (clocked less : List Placed → Type 0) → ((groups : List Placed) → clocked groups → less groups)
-    → (told : ℕ) (r : Role) (before : Holding L) (how : Linked) (after : Holding L) → LinkDid g ways clocked told r before how after → LinkDid g ways less told r before how after
-link-says g ways clocked less so told r before (linked.Ended how) after did =
-    record { conn = did.conn; up = did.up; joins = did.joins; did = session-says g ways clocked less so told r did.conn (record { pass = did.up; link = before.link; dial = before.dial }) how after did.did }
-link-says g ways clocked less so told r before linked.Full after did = (did.0, did.1, so [] did.2, did.3, did.4)
-link-says g ways clocked less so told r before linked.NoMemory after did = (did.0, did.1, so [] did.2, did.3, did.4)
+pub link-says : {B L : Type 0} (means : List ℕ → Role → Meaning) (g : Origin B) (ways : Ghosts L) (clocked less : List Placed → Type 0) → ((groups : List Placed) → clocked groups → less groups)
+    → (told : ℕ) (r : Role) (before : Holding L) (how : Linked) (after : Holding L) → LinkDid means g ways clocked told r before how after → LinkDid means g ways less told r before how after
+link-says means g ways clocked less so told r before (linked.Ended how) after did =
+    record { conn = did.conn; up = did.up; joins = did.joins; did = session-says means g ways clocked less so told r did.conn (record { pass = did.up; link = before.link; dial = before.dial }) how after did.did }
+link-says means g ways clocked less so told r before linked.Full after did = (did.0, did.1, so [] did.2, did.3, did.4)
+link-says means g ways clocked less so told r before linked.NoMemory after did = (did.0, did.1, so [] did.2, did.3, did.4)

@@ -9,14 +9,13 @@ use Rattle.std.proofs.lemmas.Option.{same_Some}
 use Rattle.vx_io_traits.specs.declared.dials.Rang.{Rang}
 use Rattle.vx_io_traits.specs.Rung.{AddsCalls}
 use Rattle.vx_io_traits.specs.declared.links.Link.{Ghosts as OfLink}
-use Rattle.vx_488.specs.declared.bus.Bus.{Ghosts}
-use Rattle.vx_core.specs.CoreState.{CoreState}
-use Rattle.vx_session.specs.Origin.{Origin, origin}
+use Rattle.vx_session.specs.Origin.{Origin}
 use Rattle.vx_gate.specs.PassView.{PassView}
 use Rattle.vx_group.specs.Groups.{Group, events_of}
 use Rattle.vx_stream.specs.Shown.{LinkShown, link_shown}
 use Rattle.vx_record.specs.Records.{Split, records}
-use Rattle.vx_exchange.specs.Meaning.{meaning}
+use Rattle.vx_calls.specs.declared.calls.Role.{Role}
+use Rattle.vx_exchange.specs.Meaning.{Meaning}
 use Rattle.vx_stream.specs.Answered.{Answered, AnswersAll}
 use Rattle.vx_stream.specs.Stopping.{EndsSo, IsLeft, StreamAnswered}
 use Rattle.vx_stream.specs.declared.ends.End.{End}
@@ -66,13 +65,13 @@ rings-goes a b c ps qs xs ys before after = record {
 
 -- These messages of a session, whose pass was this one, were served, one after the other, by the groups of its pass and the calls of
 -- its dial.
-pub record ServesAll {B C : Type 0} (g : Origin B) (tells : C → ℕ → C → Type 0) (s : SessionState C) (pass : PassView Group) (list : List Answered) (s' : SessionState C) : Type 0 where
+pub record ServesAll {B C : Type 0} (means : List ℕ → Role → Meaning) (g : Origin B) (tells : C → ℕ → C → Type 0) (s : SessionState C) (pass : PassView Group) (list : List Answered) (s' : SessionState C) : Type 0 where
   pub items : List Item
   pub pass' : PassView Group
   pub are : answered items ≡ list
   pub has : s'.pass ≡ Some pass'
   pub makes : Makes s'.told pass (placed items) pass'
-  pub each : All (SessionServes g pass.number s.conn s.role) items
+  pub each : All (SessionServes means g pass.number s.conn s.role) items
   pub asks : ClockedAs s.role tells s.clock s'.clock (placed items)
   pub rings : Rings s.dial (placed items) (calls items) s'.dial
   pub role : s'.role ≡ s.role
@@ -89,14 +88,14 @@ pub record Stays {C : Type 0} (s s' : SessionState C) : Type 0 where
   pub later : s.told ≤ s'.told
 
 -- no message was served
-serves-none : {B C : Type 0} (g : Origin B) (tells : C → ℕ → C → Type 0) (s s' : SessionState C) (pass : PassView Group) → s.pass ≡ Some pass → Stays s s' → ServesAll g tells s pass [] s'
-serves-none g tells s s' pass had stays = record {
+serves-none : {B C : Type 0} (means : List ℕ → Role → Meaning) (g : Origin B) (tells : C → ℕ → C → Type 0) (s s' : SessionState C) (pass : PassView Group) → s.pass ≡ Some pass → Stays s s' → ServesAll means g tells s pass [] s'
+serves-none means g tells s s' pass had stays = record {
   items = [];
   pass' = pass;
   are = refl;
   has = stays.pass ∙ had;
   makes = makes-none s'.told pass;
-  each = All-nil (SessionServes g pass.number s.conn s.role);
+  each = All-nil (SessionServes means g pass.number s.conn s.role);
   asks = clockedas-none tells s.role s.clock s'.clock stays.clock;
   rings = subst (λ d. Rings s.dial [] [] d) (sym stays.dial) (rings-none s.dial);
   role = stays.role;
@@ -105,10 +104,10 @@ serves-none g tells s s' pass had stays = record {
 }
 
 -- one message was answered, and then more of them
-serves-more : {B C : Type 0} (g : Origin B) (tells : C → ℕ → C → Type 0) (s mid s' : SessionState C) (pass : PassView Group) (one : Answered) (more : List Answered) → s.pass ≡ Some pass
-    → (does : MessageDoes g tells s one.message (Some one.reply) mid) → ServesAll g tells mid does.has.pass' more s' → ServesAll g tells s pass (one ∷ more) s'
-serves-more g tells s mid s' pass one more had does rest =
-    let first = subst (λ p. ServesMeaning g (ClockedAs s.role tells s.clock mid.clock) mid.told p s.conn (meaning one.message s.role) s.dial one.reply does.has.pass' mid.dial) (same_Some does.has.pass pass (sym does.has.had ∙ had)) does.has.serves in
+serves-more : {B C : Type 0} (means : List ℕ → Role → Meaning) (g : Origin B) (tells : C → ℕ → C → Type 0) (s mid s' : SessionState C) (pass : PassView Group) (one : Answered) (more : List Answered) → s.pass ≡ Some pass
+    → (does : MessageDoes means g tells s one.message (Some one.reply) mid) → ServesAll means g tells mid does.has.pass' more s' → ServesAll means g tells s pass (one ∷ more) s'
+serves-more means g tells s mid s' pass one more had does rest =
+    let first = subst (λ p. ServesMeaning g (ClockedAs s.role tells s.clock mid.clock) mid.told p s.conn (means one.message s.role) s.dial one.reply does.has.pass' mid.dial) (same_Some does.has.pass pass (sym does.has.had ∙ had)) does.has.serves in
     let item : Item = record { answered = one; placed = first.placed; calls = first.rung } in
     let earlier = does.later in
     let later = rest.later in
@@ -118,10 +117,10 @@ serves-more g tells s mid s' pass one more had does rest =
       are = ap (λ list. one ∷ list) rest.are;
       has = rest.has;
       makes = makes-goes mid.told s'.told pass does.has.pass' rest.pass' item.placed (placed rest.items) later first.makes rest.makes;
-      each = All-cons (SessionServes g pass.number s.conn s.role) item rest.items first.holding
-          (subst (λ n. All (SessionServes g n s.conn s.role) rest.items) first.makes.number
-          (subst (λ n. All (SessionServes g does.has.pass'.number n s.role) rest.items) does.conn
-          (subst (λ r. All (SessionServes g does.has.pass'.number mid.conn r) rest.items) does.role rest.each)));
+      each = All-cons (SessionServes means g pass.number s.conn s.role) item rest.items first.holding
+          (subst (λ n. All (SessionServes means g n s.conn s.role) rest.items) first.makes.number
+          (subst (λ n. All (SessionServes means g does.has.pass'.number n s.role) rest.items) does.conn
+          (subst (λ r. All (SessionServes means g does.has.pass'.number mid.conn r) rest.items) does.role rest.each)));
       asks = clockedas-goes tells s.role s.clock mid.clock s'.clock item.placed (placed rest.items) first.asks
           (subst (λ r. ClockedAs r tells mid.clock s'.clock (placed rest.items)) does.role rest.asks);
       rings = rings-goes s.dial mid.dial s'.dial item.placed (placed rest.items) item.calls (calls rest.items) first.rings rest.rings;
@@ -145,9 +144,9 @@ left-so does last s' seen list looked behind unsent seen' (end.Junk count) ended
 left-so does last s' seen list looked behind unsent seen' _ ended left = inl left
 
 -- what answers messages, as a session's state shows it
-module _ {B C S : Type 0} (bus : Ghosts B) (tells : C → ℕ → C → Type 0) (first : S → CoreState B) (does : S → List ℕ → Option (List ℕ) → S → Type 0) (shown : S → SessionState C)
-    (one : (s s' : S) (message : List ℕ) (reply : Option (List ℕ)) → does s message reply s' → MessageDoes (origin bus (first s)) tells (shown s) message reply (shown s'))
-    (same : (s s' : S) (message : List ℕ) (reply : Option (List ℕ)) → does s message reply s' → first s' ≡ first s) where
+module _ {A B C S : Type 0} (means : A → List ℕ → Role → Meaning) (g : A → Origin B) (tells : C → ℕ → C → Type 0) (of : S → A) (does : S → List ℕ → Option (List ℕ) → S → Type 0) (shown : S → SessionState C)
+    (one : (s s' : S) (message : List ℕ) (reply : Option (List ℕ)) → does s message reply s' → MessageDoes (means (of s)) (g (of s)) tells (shown s) message reply (shown s'))
+    (same : (s s' : S) (message : List ℕ) (reply : Option (List ℕ)) → does s message reply s' → of s' ≡ of s) where
   -- as it is left, it stays
   left-stays : (last s' : S) → (s' ≡ last) ⊎ ((junk : List ℕ) × does last junk None s') → Stays (shown last) (shown s')
   left-stays last s' (inl same) = subst (λ x. Stays (shown last) (shown x)) (sym same) (record { role = refl; conn = refl; pass = refl; dial = refl; clock = refl; later = omega arith })
@@ -157,18 +156,18 @@ module _ {B C S : Type 0} (bus : Ghosts B) (tells : C → ℕ → C → Type 0) 
 
   -- the messages that it answered were served
   all-served : (s last s' : S) (pass : PassView Group) (list : List Answered) → (shown s).pass ≡ Some pass → AnswersAll does s list last → Stays (shown last) (shown s')
-      → ServesAll (origin bus (first s)) tells (shown s) pass list (shown s')
-  all-served s last s' pass [] had all stays = serves-none (origin bus (first s)) tells (shown s) (shown s') pass had (subst (λ x. Stays (shown x) (shown s')) all stays)
+      → ServesAll (means (of s)) (g (of s)) tells (shown s) pass list (shown s')
+  all-served s last s' pass [] had all stays = serves-none (means (of s)) (g (of s)) tells (shown s) (shown s') pass had (subst (λ x. Stays (shown x) (shown s')) all stays)
   all-served s last s' pass (message ∷ more) had all stays =
       let did = one s all.0 message.message (Some message.reply) all.1 in
-      serves-more (origin bus (first s)) tells (shown s) (shown all.0) (shown s') pass message more had did
-      (subst (λ x. ServesAll (origin bus x) tells (shown all.0) did.has.pass' more (shown s')) (same s all.0 message.message (Some message.reply) all.1)
+      serves-more (means (of s)) (g (of s)) tells (shown s) (shown all.0) (shown s') pass message more had did
+      (subst (λ x. ServesAll (means x) (g x) tells (shown all.0) did.has.pass' more (shown s')) (same s all.0 message.message (Some message.reply) all.1)
       (all-served all.0 last s' did.has.pass' more did.has.has all.2 stays))
 
   -- so were those of its stream
   pub stream-served : {L : Type 0} (ways : OfLink L) (s s' : S) (pass : PassView Group) (link link' : L) (limit room : ℕ) (how : End) → (shown s).pass ≡ Some pass
       → (did : StreamAnswered does ways limit room None (record { server = s; link = link }) (Some how) (record { server = s'; link = link' }))
-      → ServesAll (origin bus (first s)) tells (shown s) pass did.answered (shown s')
+      → ServesAll (means (of s)) (g (of s)) tells (shown s) pass did.answered (shown s')
   stream-served ways s s' pass link link' limit room how had did =
       all-served s did.last s' pass did.answered had did.progress.answers
       (left-stays did.last s'
@@ -177,7 +176,7 @@ module _ {B C S : Type 0} (bus : Ghosts B) (tells : C → ℕ → C → Type 0) 
 module _ {S A : Type 0} (does : S → List ℕ → Option (List ℕ) → S → Type 0) (of : S → A)
     (one : (s s' : S) (message : List ℕ) (reply : Option (List ℕ)) → does s message reply s' → of s' ≡ of s) where
   -- what each message keeps is kept by all of them
-  all-keeps : (s s' : S) (list : List Answered) → AnswersAll does s list s' → of s' ≡ of s
+  pub all-keeps : (s s' : S) (list : List Answered) → AnswersAll does s list s' → of s' ≡ of s
   all-keeps s s' [] all = ap of all
   all-keeps s s' (first ∷ more) all = all-keeps all.0 s' more all.2 ∙ one s all.0 first.message (Some first.reply) all.1
 

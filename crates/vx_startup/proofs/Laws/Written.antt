@@ -71,11 +71,11 @@ reads_so o rack before after tally how input.Failed bench run = absurd bench
 reads_so o rack before after tally how input.NoMemory bench run = absurd bench
 
 -- and so does one that is ready
-pub ready : (words : List (List ℕ)) (rack : List SpareShown) (source source' : End) (o : Options) (before after : ServerIo) (tally : ℕ) (how : ServerStatus)
-    → IsServerReady words rack source source' o → ServerEndsRun o before.ports before.refused after.ports after.refused tally how
+pub ready : (words : List (List ℕ)) (rack : List SpareShown) (source source' : End) (o : Options) (names : List (List ℕ × List ℕ)) (before after : ServerIo) (tally : ℕ) (how : ServerStatus)
+    → IsServerReady words rack source source' o names → ServerEndsRun o before.ports before.refused after.ports after.refused tally how
     → ServerEnds words rack source source' before after tally how
-ready words rack source source' o before after tally how r run = record {
-  request = asked.Serve o;
+ready words rack source source' o names before after tally how r run = record {
+  request = asked.Serve o names;
   asks = r.asks;
   ends = record { given = r.given; reads = r.reads; ends = reads_so o rack before after tally how r.given r.bench run };
 }

@@ -18,7 +18,7 @@ returns-in-Ok-clause-ends g c =
       refused = g.W.Spawner.faults c.serve_bus.new.host.spawner.now;
     } in
     relayed (words_of g.L.Link g.L.Reach.refused g.L.Reach.tries) c.args.link (map string_bytes c.args.words.now)
-    (source_shown g.S.Source c.args.bench.now) (source_shown g.S.Source c.prepare.new.bench) c.in-Ok.options
+    (source_shown g.S.Source c.args.bench.now) (source_shown g.S.Source c.prepare.new.bench) c.in-Ok.options c.in-Ok.names
     (record { ports = record { net = net; sink = first }; refused = refused }) after c.serve_bus.result.tally c.serve_bus.result.status
     c.in-Ok.ensures.ready
     (subst

@@ -19,7 +19,7 @@ returns-in-Ok-clause-ends g c =
     } in
     ready (map string_bytes c.args.words.now) (map (spare_shown (handed_in (λ i. g.I.Instrument.behaves i) (λ i. g.I.Instrument.nature i))) c.args.rack.items)
     (source_shown g.S.Source c.args.bench.now)
-    (source_shown g.S.Source c.prepare-prepared.new.bench) c.in-Ok.options
+    (source_shown g.S.Source c.prepare-prepared.new.bench) c.in-Ok.options c.in-Ok.names
     (record { ports = record { net = net; sink = first }; refused = refused }) after c.serve_bus.result.tally c.serve_bus.result.status
     c.in-Ok.ensures.ready
     (subst

@@ -1,7 +1,7 @@
 use Rattle.std.proofs.Common.{◌≡◌, ◌≤◌, Some, None, refl, sym, ◌∙◌, subst, rules}
 use Rattle.std.proofs.lemmas.Option.{none-some}
 use Rattle.vx_session.proofs.Laws.Attended.{link-keeps}
-use Rattle.vx_session.proofs.Laws.OneBusSessions.{link-did, link-later}
+use Rattle.vx_session.proofs.Laws.OneBusSessions.{as_it_is, link-did, link-later}
 use Rattle.vx_session.proofs.links.run_link.Goals as goal
 
 pub unreachable-requires : goal.unreachable-requires
@@ -16,7 +16,7 @@ returns-clause-did g c =
     let held = link-keeps _ (λ s. s.held.ghost_name) (λ s s' xid call reply did. did.1) (λ s s' xid lid reply did. did.1) (λ s s' did. did.1) (λ s s' r answer did. did.1) g.L.Link _ _ _ _ _ _ did in
     let clock = link-keeps _ (λ s. s.clock.ghost_name) (λ s s' xid call reply did. did.2) (λ s s' xid lid reply did. did.2) (λ s s' did. did.2) (λ s s' r answer did. did.2) g.L.Link _ _ _ _ _ _ did in
     let dial = link-keeps _ (λ s. s.dial.ghost_name) (λ s s' xid call reply did. did.3) (λ s s' xid lid reply did. did.3) (λ s s' did. did.3) (λ s s' r answer did. did.3) g.L.Link _ _ _ _ _ _ did in
-    link-did g.B.Bus g.C.Clock g.D.Dial _ (λ s. g.T.Turns.first s.worker.turns.now) (λ s. g.T.Turns.gate s.worker.turns.now) (λ s. s.worker.conn) (λ s. s.held.now) (λ s. s.clock.now) (λ s. s.dial.now)
+    link-did g.B.Bus g.C.Clock g.D.Dial _ (λ s. g.T.Turns.first s.worker.turns.now) (λ first. first) (λ first asked. asked) (λ first m. m) (λ first. as_it_is) (λ s. g.T.Turns.gate s.worker.turns.now) (λ s. s.worker.conn) (λ s. s.held.now) (λ s. s.clock.now) (λ s. s.dial.now)
     (λ s r idle. idle) (λ s s' xid call reply did. did.0) (λ s s' xid lid reply did. did.0) (λ s s' xid call reply did. did.4) (λ s s' xid lid reply did. did.4) (λ s s' did. did.0)
     (λ s s' r answer did. did.0) (λ s s' r answer did. did.4)
     g.L.Link c.claims_law.ensures.claims c.owned_law.ensures c.args.worker.now.role _ c.serve_link-how.result.0 c.args.pass c.in-Some.pass _ _ _ _ _ refl
@@ -27,7 +27,7 @@ returns-clause-told g c =
     let did = c.serve_link-how.ensures.did in
     let clock = link-keeps _ (λ s. s.clock.ghost_name) (λ s s' xid call reply did. did.2) (λ s s' xid lid reply did. did.2) (λ s s' did. did.2) (λ s s' r answer did. did.2) g.L.Link _ _ _ _ _ _ did in
     subst (λ k. g.C.Clock.told c.args.clock.now ≤ g.C.Clock.told k) (search (rules, clock))
-    (link-later g.B.Bus g.C.Clock g.D.Dial _ (λ s. g.T.Turns.first s.worker.turns.now) (λ s. g.T.Turns.gate s.worker.turns.now) (λ s. s.worker.conn) (λ s. s.held.now) (λ s. s.clock.now) (λ s. s.dial.now)
+    (link-later g.B.Bus g.C.Clock g.D.Dial _ (λ s. g.T.Turns.first s.worker.turns.now) (λ first. first) (λ first asked. asked) (λ first m. m) (λ first. as_it_is) (λ s. g.T.Turns.gate s.worker.turns.now) (λ s. s.worker.conn) (λ s. s.held.now) (λ s. s.clock.now) (λ s. s.dial.now)
     (λ s r idle. idle) (λ s s' xid call reply did. did.0) (λ s s' xid lid reply did. did.0) (λ s s' xid call reply did. did.4) (λ s s' xid lid reply did. did.4) (λ s s' did. did.0)
     (λ s s' r answer did. did.0) (λ s s' r answer did. did.4)
     g.L.Link c.args.worker.now.role _ c.serve_link-how.result.0 _ _ _ did)

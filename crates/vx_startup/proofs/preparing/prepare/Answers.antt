@@ -19,11 +19,12 @@ returns-in_err-text-clause-early g c =
     let sink : End = sink_shown g.K.Sink c.options_of.new.sink in
     let sink' : End = sink_shown g.K.Sink c.bench_of.new.sink in
     let o = c.in_ok-options.options in
+    let names = c.in_ok-options.names in
     let how = c.in_err-text.field-0.0 in
     let p = err_from_is_err_and c.from_residual-in_err-text.result c.from_residual-in_err-text.ensures.1 in
     answered (ServerEnds words rack source source') (sink_shown g.K.Sink c.args.sink.now) sink sink' _ how
     c.in_ok-options.ensures.silent
-    (behind_words words rack source source' o sink sink' how c.in_ok-options.ensures.set (c.in_err-text.ensures.early o rack)) (cc (p.1, p.2))
+    (behind_words words rack source source' o names sink sink' how c.in_ok-options.ensures.set (c.in_err-text.ensures.early o rack)) (cc (p.1, p.2))
 
 pub returns-in_err-bus-clause-early : goal.returns-in_err-bus-clause-early
 returns-in_err-bus-clause-early g c =
@@ -34,13 +35,14 @@ returns-in_err-bus-clause-early g c =
     let sink : End = sink_shown g.K.Sink c.bench_of.new.sink in
     let sink' : End = sink_shown g.K.Sink c.bus_of.new.sink in
     let o = c.in_ok-options.options in
+    let names = c.in_ok-options.names in
     let how = c.in_err-bus.field-0.0 in
     let set : Early (EndsBenched c.in_ok-text.text.items rack o) sink sink' how =
     subst (λ text. Early (EndsBenched text rack o) sink sink' how) c.deref.ensures.value (c.in_err-bus.ensures.early o) in
     let p = err_from_is_err_and c.from_residual-in_err-bus.result c.from_residual-in_err-bus.ensures.1 in
     answered (ServerEnds words rack source source') (sink_shown g.K.Sink c.args.sink.now) sink sink' _ how
     (c.in_ok-text.ensures.silent ∙ c.in_ok-options.ensures.silent)
-    (behind_words words rack source source' o sink sink' how c.in_ok-options.ensures.set
+    (behind_words words rack source source' o names sink sink' how c.in_ok-options.ensures.set
     (behind_reading o rack source source' (input.Whole c.in_ok-text.text) sink sink' how c.in_ok-text.ensures.read set)) (cc (p.1, p.2))
 
 pub returns-clause-ready : goal.returns-clause-ready

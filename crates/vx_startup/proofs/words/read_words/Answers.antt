@@ -1,11 +1,11 @@
 use Rattle.std.proofs.Common.{◌∙◌, map, string_bytes, sym, ap, subst}
 use Rattle.clap.specs.Words.{App, HasKind, fault_of, found_of, is_simple, is_simple_and_free, kind_of, matches_of, rows_of}
 use Rattle.vx_startup.proofs.Values.{all_given}
-use Rattle.vx_startup.proofs.Verdicts.{all_taken, answered, found_rows, simple, simple_and_free}
+use Rattle.vx_startup.proofs.Verdicts.{answered, served, simple, simple_and_free}
 use Rattle.vx_startup.proofs.words.read_words.Goals as goal
 
-pub options_of-requires : goal.options_of-requires
-options_of-requires c =
+pub served-requires : goal.served-requires
+served-requires c =
     all_given c.in-Ok.command c.in-Ok.ensures c.in-Ok-try_get_matches_from.matches c.in-Ok-try_get_matches_from.ensures.parsed
 
 pub returns-in-Ok-try_get_matches_from : goal.returns-in-Ok-try_get_matches_from
@@ -15,8 +15,10 @@ returns-in-Ok-try_get_matches_from c =
     let parse = c.in-Ok-try_get_matches_from in
     let none = parse.ensures.kinds (ap is_simple_and_free same ∙ simple_and_free) in
     let found = (parse.ensures.matches (ap is_simple same ∙ simple)).0 in
-    let sets = found_rows words (rows_of (found_of parse.matches)) c.options_of.result (found ∙ ap (λ (a : App). matches_of a words) same) c.options_of.ensures.sets in
-    record { answer = ((all_taken words (ap (λ (a : App). fault_of a words) (sym same) ∙ none), sets), c.options_of.ensures.range) }
+    record {
+      answer = served words (rows_of (found_of parse.matches)) c.served.result (found ∙ ap (λ (a : App). matches_of a words) same)
+          (ap (λ (a : App). fault_of a words) (sym same) ∙ none) c.served.ensures;
+    }
 
 pub returns-in-Err : goal.returns-in-Err
 returns-in-Err c =

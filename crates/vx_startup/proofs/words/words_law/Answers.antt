@@ -58,3 +58,11 @@ returns-clause-map c = (refl, record { core = refl; abort = refl; sample = refl;
 pub returns-clause-impatient : goal.returns-clause-impatient
 unfolding clap_on_literals verdict
 returns-clause-impatient c = refl
+
+pub returns-clause-names : goal.returns-clause-names
+unfolding clap_on_literals rows
+returns-clause-names c = refl
+
+pub returns-clause-nameless : goal.returns-clause-nameless
+unfolding clap_on_literals rows
+returns-clause-nameless c = refl

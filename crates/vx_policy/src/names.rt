@@ -1,13 +1,14 @@
 //! A table of names for devices.
-ghost use Rattle.std.specs.Prelude.{◌≡◌, ◌≤◌, ◌↔◌, [], ◌∷◌, ◌++◌, length, max, find, IsTrue, IfOk, OnOk, OnErr};
+ghost use Rattle.std.specs.Prelude.{◌≡◌, ◌≢◌, ◌≤◌, ◌↔◌, [], ◌∷◌, ◌++◌, Ok, Err, None, Some, length, max, find, IsTrue, IfOk, OnOk, OnErr};
 ghost use Rattle.std.specs.Bool.{IsFalse};
 ghost use Rattle.std.specs.Option.{option_copied};
 ghost use Rattle.std.specs.Str.{bytes_eq};
 ghost use Rattle.vx_calls.specs.declared.limits.TheConstants.{DEVICE_MAX};
-ghost use Rattle.vx_desks.specs.declared.table.TheConstants.{NAMES_MAX};
-ghost use Rattle.vx_desks.specs.Names.{are_short, has_name, device_of};
+ghost use Rattle.vx_policy.specs.declared.names.TheConstants.{NAMES_MAX};
+ghost use Rattle.vx_policy.specs.Names.{are_short, has_name, device_of, equals, names_with};
 
-use crate::NoMemory;
+use crate::made::NoMemory;
+use crate::words::cut;
 use std::alloc::{AllocError, Global};
 use std::marker::Model;
 use vx_calls::DEVICE_MAX;
@@ -18,6 +19,8 @@ pub const NAMES_MAX: usize = 64;
 /// Why a name isn't added.
 #[derive(Clone, Copy, Debug, PartialEq, Eq)]
 pub enum NameRefused {
+    /// There is no `=` between it and its device text.
+    Form,
     /// It, or the device text that it is to stand for, has more than [`DEVICE_MAX`] bytes.
     TooLong,
     /// The table has this name already.
@@ -103,7 +106,7 @@ pub struct NameTable {
 
 impl Model for NameTable {
     ghost use Rattle.std.specs.Prelude.{◌≤◌, ℕ, List, length, vec_capacity};
-    ghost use Rattle.vx_desks.specs.declared.table.TheConstants.{NAMES_MAX};
+    ghost use Rattle.vx_policy.specs.declared.names.TheConstants.{NAMES_MAX};
 
     ghost Value = { List (List ℕ × List ℕ) };
 
@@ -134,6 +137,7 @@ impl NameTable {
         ensures refused { OnErr result (self.new ≡ self.old) }
 
         // When each refusal but that for want of memory comes, in this order.
+        ensures formed { result ≢ Err NameRefused.Form }
         ensures long { (result ≡ Err NameRefused.TooLong) ↔ IsFalse (are_short name.now device.now) }
         ensures known { (result ≡ Err NameRefused.Known)
             ↔ (IsTrue (are_short name.now device.now) × IsTrue (has_name self.old name.now)) }
@@ -156,6 +160,22 @@ impl NameTable {
                 Ok(())
             }
             Err(_) => Err(NameRefused::NoMemory),
+        }
+    }
+
+    /// Adds the name that a text `NAME=DEVICE` gives: NAME is what stands before its first `=`, and DEVICE what stands behind that.
+    ///
+    /// # Errors
+    ///
+    /// `Form` where there is no `=`; else those of [`NameTable::add`]. Then nothing changes.
+    pub fn add_text(&mut self, text: &[u8]) -> Result<(), NameRefused>
+        ensures added { OnOk result (names_with self.old text.now ≡ Some self.new) }
+        ensures refused { OnErr result (self.new ≡ self.old) }
+        ensures other { OnErr result ((result ≢ Err NameRefused.NoMemory) → names_with self.old text.now ≡ None) }
+    {
+        match cut(text, b'=') {
+            Some((name, device)) => self.add(name, device),
+            None => Err(NameRefused::Form),
         }
     }
 
