@@ -112,7 +112,7 @@ def printed(programs, name, word, due):
     return done.stdout.decode()
 
 
-OPTION = re.compile(r" +(?:(-\w), )?(--[\w-]+)(?: <(\w+)>)? +(.+?)(?: \[default: (\S+)\])?")
+OPTION = re.compile(r" +(?:(-\w), )?(--[\w-]+)(?: <([\w=]+)>)? +(.+?)(?: \[default: (\S+)\])?")
 
 
 def option(line):
