@@ -135,7 +135,7 @@ def clauses(lines, number):
     found, own = [], len(lines[number]) - len(lines[number].lstrip())
     for line in lines[number + 1 :]:
         depth = len(line) - len(line.lstrip())
-        if line.strip() and depth <= own and (line.strip().startswith("{") or not line.strip().startswith((")", "where"))):
+        if line.strip() and depth <= own and (line.strip().startswith("{") or not line.strip().startswith((")", ">", "where"))):
             break
         clause = CLAUSE.match(line)
         if clause:

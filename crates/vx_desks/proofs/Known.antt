@@ -5,13 +5,14 @@ use Rattle.std.proofs.lemmas.Option.{same_Some}
 use Rattle.std.proofs.lemmas.List.{map-append}
 use Rattle.std.proofs.lemmas.List.Concat.{flat_map-cons, flat_map-append}
 use Rattle.vx_io_traits.specs.declared.dials.Rang.{Rang}
+use Rattle.vx_calls.specs.declared.calls.Role.{Role}
 use Rattle.vx_calls.specs.declared.calls.Role.TheVariants as role
 use Rattle.vx_gate.specs.declared.views.Logged.{Logged}
 use Rattle.vx_gate.specs.History.{groups, made_by, Lawful}
 use Rattle.vx_gate.specs.PassView.{PassView}
 use Rattle.vx_gate.proofs.Laws.Histories.{Lawful_front}
 use Rattle.vx_exchange.specs.Meaning as meant
-use Rattle.vx_exchange.specs.Meaning.{Meaning, meaning}
+use Rattle.vx_exchange.specs.Meaning.{Meaning}
 use Rattle.vx_group.specs.Event.{Up, Abort}
 use Rattle.vx_group.specs.InterleavedState.{InterleavedState}
 use Rattle.vx_group.specs.Groups.{Group, events_of, StandsFor}
@@ -68,7 +69,7 @@ knows-aborted conn xid lid own made ps calls out is knows =
       are = ap (numbers_by conn) events ∙ numbers-append conn Absent (Some []) (events_of own) last ∙ knows.are;
     })
 
-module _ {B : Type 0} (g : Origin B) (called : CalledLinksLaw g) (read_made : MadeRead) (read_done : DoneRead) (alike : NamedAlike) (number conn : ℕ) where
+module _ {B : Type 0} (g : Origin B) (called : CalledLinksLaw g) (read_made : MadeRead) (read_done : DoneRead) (alike : NamedAlike) (number conn : ℕ) (means : List ℕ → Role → Meaning) where
   -- a message that was served
   knows-served : (m : Meaning) (item : Item) (own : List Group) (made : List MadeLink) (seen seen' : List (Logged Group)) → IsSessionServed g number conn m item.placed item.calls item.answered.reply
       → Chain number seen item.placed seen' → Lawful MayAdd seen' → Knows conn own made → Knows conn (own ++ map (λ p. p.group) item.placed) (learned made m item.answered.reply)
@@ -97,7 +98,7 @@ module _ {B : Type 0} (g : Origin B) (called : CalledLinksLaw g) (read_made : Ma
   knows-one m (Some rule) item own made made' seen seen' is chain lawful knows = knows-denied m item own made made' is knows
 
   -- messages, one after the other
-  knows-all : (rules : List Rule) (peer : ℕ) (items : List Judged) (own : List Group) (made made' : List MadeLink) (seen seen' : List (Logged Group)) → Guards g number conn rules peer made items made'
+  knows-all : (rules : List Rule) (peer : ℕ) (items : List Judged) (own : List Group) (made made' : List MadeLink) (seen seen' : List (Logged Group)) → Guards means g number conn rules peer made items made'
       → Chain number seen (placed (served items)) seen' → Lawful MayAdd seen' → Knows conn own made → Knows conn (own ++ map (λ p. p.group) (placed (served items))) made'
   knows-all rules peer [] own made made' seen seen' each chain lawful knows = knows-same conn own made made' [] refl each knows
   knows-all rules peer (j ∷ later) own made made' seen seen' each chain lawful knows =
@@ -106,7 +107,7 @@ module _ {B : Type 0} (g : Origin B) (called : CalledLinksLaw g) (read_made : Ma
       let rest = placed (served later) in
       let are : placed (served (j ∷ later)) ≡ first ++ rest = flat_map-cons (λ (i : Item). i.placed) j.served (served later) in
       let parts = chain-parts number seen seen' first rest (subst (λ l. Chain number seen l seen') are chain) in
-      let one = knows-one (meaning j.served.answered.message role.Core) j.denial j.served own made each.1 seen parts.0 each.2 parts.1 (front-lawful number parts.0 seen' rest parts.2 lawful) knows in
+      let one = knows-one (means j.served.answered.message role.Core) j.denial j.served own made each.1 seen parts.0 each.2 parts.1 (front-lawful number parts.0 seen' rest parts.2 lawful) knows in
       subst (λ o. Knows conn o made') (append_assoc own (map of first) (map of rest) ∙ ap (λ l. own ++ l) (sym (map-append of first rest)) ∙ ap (λ l. own ++ map of l) (sym are))
       (knows-all rules peer later (own ++ map of first) each.1 made' parts.0 seen' each.3 parts.2 lawful one)
 
@@ -119,10 +120,10 @@ had-so links number conn own log f lawful stands are idle =
     subst (λ o. HasLinks f conn (phase_by conn (events_of o)) (numbers_by conn (events_of o))) are (links log f number conn lawful stands) (ap is_up idle)
 
 -- a session on a connection that had no link knows exactly those that the connection has, at each moment between two messages
-pub knows-links : {B : Type 0} (g : Origin B) → LinksLaw → CalledLinksLaw g → MadeRead → DoneRead → NamedAlike → (conn : ℕ) (rules : List Rule) (peer : ℕ) (pass : PassView Group) (seen' : List (Logged Group))
+pub knows-links : {B : Type 0} (means : List ℕ → Role → Meaning) (g : Origin B) → LinksLaw → CalledLinksLaw g → MadeRead → DoneRead → NamedAlike → (conn : ℕ) (rules : List Rule) (peer : ℕ) (pass : PassView Group) (seen' : List (Logged Group))
     (items : List Judged) (last : Placed) → made_by pass.number pass.seen ≡ pass.own → phase_at pass conn ≡ Idle role.Core → Chain pass.number pass.seen (placed (served items) ++ last ∷ []) seen'
-    → Lawful MayAdd seen' → (first : InterleavedState) → StandsFor first (groups pass.seen) → numbers_had first conn ≡ [] → KnowsLinks g pass.number conn rules peer pass.own items seen'
-knows-links g links called read_made read_done alike conn rules peer pass seen' items last order idle chain lawful first stands none front later made log f are each at =
+    → Lawful MayAdd seen' → (first : InterleavedState) → StandsFor first (groups pass.seen) → numbers_had first conn ≡ [] → KnowsLinks means g pass.number conn rules peer pass.own items seen'
+knows-links means g links called read_made read_done alike conn rules peer pass seen' items last order idle chain lawful first stands none front later made log f are each at =
     let of : Item → List Placed = λ i. i.placed in
     let groups_are : placed (served items) ++ last ∷ [] ≡ placed (served front) ++ (placed (served later) ++ last ∷ []) =
     ap (λ l. placed (served l) ++ last ∷ []) are
@@ -134,7 +135,7 @@ knows-links g links called read_made read_done alike conn rules peer pass seen' 
       idle = idle;
       are = had-so links pass.number conn pass.own pass.seen first (front-lawful pass.number pass.seen seen' (placed (served items) ++ last ∷ []) chain lawful) stands order idle ∙ ap Some none;
     } in
-    let known = knows-all g called read_made read_done alike pass.number conn rules peer front pass.own [] made pass.seen parts.0 each parts.1
+    let known = knows-all g called read_made read_done alike pass.number conn means rules peer front pass.own [] made pass.seen parts.0 each parts.1
     (front-lawful pass.number parts.0 seen' (placed (served later) ++ last ∷ []) parts.2 lawful) begins in
     let now = pass.own ++ map (λ (p : Placed). p.group) (placed (served front)) in
     same_Some (numbers_had f conn) (numbers_known made)

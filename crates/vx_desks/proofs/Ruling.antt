@@ -2,11 +2,11 @@
 use Rattle.std.proofs.Common.{◌≡◌, ◌≤◌, ◌⊎◌, inl, inr, ℕ, false, List, [], ◌∷◌, ◌++◌, Option, Some, None, Result, Ok, Err, refl, sym, ap, ◌∙◌, subst, arith}
 use Rattle.std.proofs.KnownBytes.{Appends-nil}
 use Rattle.std.proofs.lemmas.Option.{same_Some}
-use Rattle.vx_io_traits.specs.declared.Sink.{Ghosts as OfSink}
 use Rattle.vx_io_traits.specs.declared.clocks.Clock.{Ghosts as OfClock}
 use Rattle.vx_io_traits.specs.declared.dials.Dial.{Ghosts as OfDial}
 use Rattle.vx_io_traits.specs.declared.links.Link.{Ghosts as OfLink}
 use Rattle.vx_door.specs.Peering.{IsPeer}
+use Rattle.vx_calls.specs.declared.calls.Role.{Role}
 use Rattle.vx_calls.specs.declared.calls.Role.TheVariants as role
 use Rattle.vx_calls.specs.declared.limits.TheConstants.{RECORD_MAX}
 use Rattle.vx_calls.specs.Call.{Call}
@@ -26,8 +26,8 @@ use Rattle.vx_stream.specs.Shown.{LinkShown, link_shown}
 use Rattle.vx_stream.specs.Stopping.{EndsSo, IsLeft}
 use Rattle.vx_stream.specs.declared.ends.End.{End}
 use Rattle.vx_stream.specs.declared.ends.End.TheVariants as end
-use Rattle.vx_session.specs.Origin.{origin}
-use Rattle.vx_session.specs.Placing.{Makes}
+use Rattle.vx_session.specs.Origin.{Origin, origin}
+use Rattle.vx_session.specs.Placing.{Placed, Makes}
 use Rattle.vx_session.specs.Turning.{Joins, Leaves, phase_at}
 use Rattle.vx_session.specs.Dialing.{DialShown}
 use Rattle.vx_session.specs.Progress.{Clocked, SessionState, session_state, placed}
@@ -41,14 +41,17 @@ use Rattle.vx_session.specs.declared.links.Linked.TheVariants as linked
 use Rattle.vx_session.specs.declared.one_bus.OneBus.{OneBus}
 use Rattle.vx_session.proofs.Laws.{makes-goes, makes-later}
 use Rattle.vx_session.proofs.Laws.Finishing.{upholds}
+use Rattle.vx_session.proofs.Laws.OneBusSessions.{IsReading}
 use Rattle.vx_desks.specs.declared.ruled_sessions.GuardEnd.{GuardEnd}
 use Rattle.vx_desks.specs.declared.ruled_links.Guarded.{Guarded}
 use Rattle.vx_desks.specs.declared.ruled.Ruled.{Ruled}
+use Rattle.vx_policy.specs.declared.rules.Rule.{Rule}
 use Rattle.vx_desks.specs.Judged.{Guards, denial, notes, served}
+use Rattle.vx_desks.specs.Known.{numbers_had}
 use Rattle.vx_desks.specs.Knowing.{KnowsOwn}
 use Rattle.vx_desks.specs.RuledLaws.{GuardLaws}
-use Rattle.vx_desks.specs.Wholes.{GuardDid, GuardEndsSo, NoteStops, guard_end}
-use Rattle.vx_desks.specs.RuledLinking.{GuardLinkDid, guarded_as}
+use Rattle.vx_desks.specs.Wholes.{GuardHolding, GuardDid, GuardEndsSo, NoteStops, guard_end}
+use Rattle.vx_desks.specs.RuledLinking.{HadGuarded, GuardLinkDid, guarded_as}
 use Rattle.vx_desks.specs.Ruling.{RuledState, ruled_state, DoesBy, RuledJoins, RuledAsks, RuledLeaves}
 use Rattle.vx_desks.proofs.Knowing.{known-first, makes-own}
 use Rattle.vx_desks.proofs.Known.{knows-links, joined-none}
@@ -68,46 +71,48 @@ abbrev pub lent_of : {R B T C P D : Type 0} → (T → CoreState B) → OneBus R
 lent_of first d = (d.held.ghost_name, d.clock.ghost_name, d.dial.ghost_name, first d.worker.turns.now)
 
 -- what a session has at a ruled desk
-abbrev pub state_of : {D K : Type 0} → OfSink K → Ruled D K → RuledState D
-state_of by_sink s = ruled_state by_sink s.desk s.policy.now s.peer s.made.now s.note.now s.failed
+abbrev pub state_of : {D N : Type 0} → (N → Ends) → Ruled D N → RuledState D
+state_of took s = ruled_state took s.desk s.policy.now s.peer s.made.now s.note.now s.failed
 
--- The desk `ways` is ruled, over the desk `below` of one bus. What was lent to both is lent still behind a connect, a call and an end.
-pub record RuledDesk {B C D S : Type 0} (bus : Ghosts B) (tells : C → ℕ → C → Type 0) (below : OfDesk D) (ways : OfDesk S) : Type 0 where
+-- The desk `ways` is ruled, over the desk `below` of one bus. It has what no message changes, `kept`, and reads calls by that before they
+-- are judged. What was lent to both is lent still behind a connect, a call and an end.
+pub record RuledDesk {B C D S K : Type 0} (bus : Ghosts B) (tells : C → ℕ → C → Type 0) (reads : K → Call → Call) (below : OfDesk D) (ways : OfDesk S) : Type 0 where
   pub seat : D → SessionState C
   pub lent : D → Lent B
   pub of : S → RuledState D
-  pub note : S → ℕ
+  pub kept : S → K
   pub core : (d : D) → (seat d).role ≡ role.Core
   pub number : (d : D) → below.number d ≡ (seat d).conn
   pub joins : (d d' : D) (answer : Result Unit Connect) → below.joins d role.Core answer d' → OneBusJoins (origin bus (lent d).3) (seat d) role.Core answer (seat d') × (lent d' ≡ lent d)
   pub asks : (d d' : D) (xid : ℕ) (call : Call) (reply : Option (List ℕ)) → below.asks d xid call reply d' → OneBusAsks (origin bus (lent d).3) tells (seat d) xid call reply (seat d') × (lent d' ≡ lent d)
   pub leaves : (d d' : D) → below.leaves d d' → OneBusLeaves (origin bus (lent d).3) (seat d) (seat d') × (lent d' ≡ lent d)
-  pub ruled_joins : (s s' : S) (answer : Result Unit Connect) → ways.joins s role.Core answer s' → RuledJoins below (of s) role.Core answer (of s') × (note s' ≡ note s)
-  pub ruled_asks : (s s' : S) (xid : ℕ) (call : Call) (reply : Option (List ℕ)) → ways.asks s xid call reply s' → RuledAsks below (of s) xid call reply (of s') × (note s' ≡ note s)
-  pub ruled_leaves : (s s' : S) → ways.leaves s s' → RuledLeaves below (of s) (of s') × (note s' ≡ note s)
+  pub ruled_joins : (s s' : S) (answer : Result Unit Connect) → ways.joins s role.Core answer s' → RuledJoins below (of s) role.Core answer (of s') × (kept s' ≡ kept s)
+  pub ruled_asks : (s s' : S) (xid : ℕ) (call : Call) (reply : Option (List ℕ)) → ways.asks s xid call reply s' → RuledAsks below (of s) xid (reads (kept s) call) reply (of s') × (kept s' ≡ kept s)
+  pub ruled_leaves : (s s' : S) → ways.leaves s s' → RuledLeaves below (of s) (of s') × (kept s' ≡ kept s)
 
--- why a stream ended behind these messages, and what its end did: nothing; or the note failed in the line of a denial
-abbrev pub WhyEnded : {C : Type 0} → (last s' : GuardState C) → LinkShown → List stream.Answered → Split → (behind unsent : List ℕ) → LinkShown → End → Type 0
-WhyEnded last s' seen list looked behind unsent seen' how =
-    ((s' ≡ last) × EndsSo (λ message. meaning message role.Core ≡ Junk) seen list looked behind unsent seen' (Some how))
-    ⊎ ((message : List ℕ) × NoteFails last (meaning message role.Core) s' × (looked.records ≡ stream.messages list ++ message ∷ []) × (unsent ≡ []))
+-- why a stream ended behind these messages, where `means` is what each means, and what its end did: nothing; or the note failed in the
+-- line of a denial
+abbrev pub WhyEnded : {C : Type 0} → (List ℕ → Role → Meaning) → (last s' : GuardState C) → LinkShown → List stream.Answered → Split → (behind unsent : List ℕ) → LinkShown → End → Type 0
+WhyEnded means last s' seen list looked behind unsent seen' how =
+    ((s' ≡ last) × EndsSo (λ message. means message role.Core ≡ Junk) seen list looked behind unsent seen' (Some how))
+    ⊎ ((message : List ℕ) × NoteFails last (means message role.Core) s' × (looked.records ≡ stream.messages list ++ message ∷ []) × (unsent ≡ []))
 
 -- the desk below is as it was
-same-desk : {C : Type 0} (last s' : GuardState C) (seen : LinkShown) (list : List stream.Answered) (looked : Split) (behind unsent : List ℕ) (seen' : LinkShown) (how : End)
-    → WhyEnded last s' seen list looked behind unsent seen' how → s'.desk ≡ last.desk
-same-desk {C} last s' seen list looked behind unsent seen' how (inl why) = ap (λ (x : GuardState C). x.desk) why.0
-same-desk last s' seen list looked behind unsent seen' how (inr why) = why.1.desk
+same-desk : {C : Type 0} (means : List ℕ → Role → Meaning) (last s' : GuardState C) (seen : LinkShown) (list : List stream.Answered) (looked : Split) (behind unsent : List ℕ) (seen' : LinkShown) (how : End)
+    → WhyEnded means last s' seen list looked behind unsent seen' how → s'.desk ≡ last.desk
+same-desk {C} means last s' seen list looked behind unsent seen' how (inl why) = ap (λ (x : GuardState C). x.desk) why.0
+same-desk means last s' seen list looked behind unsent seen' how (inr why) = why.1.desk
 
 -- how the session ended, by whether its note failed
-ends-guarded : {B C : Type 0} (bus : Ghosts B) (tells : C → ℕ → C → Type 0) (core : CoreState B) (s last s' : GuardState C) (pass : PassView Group) (list : List stream.Answered) (all : GuardsAll bus tells core s pass list last) (seen : LinkShown)
-    (looked : Split) (behind unsent : List ℕ) (seen' : LinkShown) (how : End) → s.failed ≡ false → WhyEnded last s' seen list looked behind unsent seen' how
-    → GuardEndsSo s.rules s.peer s.desk.conn last.made seen list (notes s.desk.conn all.items) looked behind unsent seen' s.note s'.note (guard_end s'.failed how)
-ends-guarded {B} {C} bus tells core s last s' pass list all seen looked behind unsent seen' how sound (inl why) =
+ends-guarded : {B C : Type 0} (means : List ℕ → Role → Meaning) (bus : Ghosts B) (tells : C → ℕ → C → Type 0) (core : CoreState B) (s last s' : GuardState C) (pass : PassView Group) (list : List stream.Answered) (all : GuardsAll bus tells core means s pass list last) (seen : LinkShown)
+    (looked : Split) (behind unsent : List ℕ) (seen' : LinkShown) (how : End) → s.failed ≡ false → WhyEnded means last s' seen list looked behind unsent seen' how
+    → GuardEndsSo means s.rules s.peer s.desk.conn last.made seen list (notes s.desk.conn all.items) looked behind unsent seen' s.note s'.note (guard_end s'.failed how)
+ends-guarded {B} {C} means bus tells core s last s' pass list all seen looked behind unsent seen' how sound (inl why) =
     let note : s'.note ≡ last.note = ap (λ (x : GuardState C). x.note) why.0 in
     rw (ap (λ (x : GuardState C). x.failed) why.0 ∙ all.still.3 ∙ sound) (why.1, rw note all.noted, rw note all.counted)
-ends-guarded bus tells core s last s' pass list all seen looked behind unsent seen' how sound (inr why) =
+ends-guarded means bus tells core s last s' pass list all seen looked behind unsent seen' how sound (inr why) =
     let fails = why.1 in
-    let stops : NoteStops s.rules s.peer s.desk.conn last.made list (notes s.desk.conn all.items) looked unsent s.note s'.note = record {
+    let stops : NoteStops means s.rules s.peer s.desk.conn last.made list (notes s.desk.conn all.items) looked unsent s.note s'.note = record {
       message = why.0;
       rule = fails.rule;
       looked_at = why.2;
@@ -120,7 +125,25 @@ ends-guarded bus tells core s last s' pass list all seen looked behind unsent se
     } in
     rw fails.failed stops
 
-module _ {B C D S : Type 0} (bus : Ghosts B) (tells : C → ℕ → C → Type 0) (below : OfDesk D) (ways : OfDesk S) (laws : GuardLaws bus) (r : RuledDesk bus tells below ways) where
+-- a connection came up, had its guarded session, and had no link before it
+had-guarded : {B L : Type 0} (means : List ℕ → Role → Meaning) (g : Origin B) (ways : OfLink L) (clocked : List Placed → Type 0) (told : ℕ) (rules : List Rule) (before : GuardHolding L) (how : GuardEnd) (after : GuardHolding L)
+    (conn : ℕ) (up : PassView Group) (joins : Joins g before.pass role.Core (Ok conn) up) (peer : ℕ) → IsPeer (ways.peers before.link) peer
+    → GuardDid means g ways clocked told rules peer conn (record { pass = up; link = before.link; dial = before.dial; note = before.note }) how after
+    → numbers_had joins.turns.history.core.interleaved conn ≡ [] → HadGuarded means g ways clocked told rules before how after
+had-guarded means g ways clocked told rules before how after conn up joins peer is_peer did none =
+    let history = joins.turns.history in
+    record {
+      conn = conn;
+      up = up;
+      joins = joins;
+      peer = peer;
+      is_peer = is_peer;
+      did = did;
+      knows = did.knows history.core.interleaved history.became.state none;
+    }
+
+module _ {B C D S K : Type 0} (bus : Ghosts B) (tells : C → ℕ → C → Type 0) (reads : K → Call → Call) (means : K → Meaning → Meaning) (is_reading : (k : K) → IsReading (reads k) (means k))
+    (below : OfDesk D) (ways : OfDesk S) (laws : GuardLaws bus) (r : RuledDesk bus tells reads below ways) where
   abbrev shows : RuledState D → GuardState C
   shows s = record { desk = r.seat s.desk; rules = s.rules; peer = s.peer; made = s.made; note = s.note; failed = s.failed }
 
@@ -130,9 +153,13 @@ module _ {B C D S : Type 0} (bus : Ghosts B) (tells : C → ℕ → C → Type 0
   abbrev first : S → CoreState B
   first x = (r.lent (r.of x).desk).3
 
-  -- what was lent is lent still
+  -- what a message means, by what no message changes
+  abbrev meant : K → List ℕ → Role → Meaning
+  meant k message role = means k (meaning message role)
+
+  -- what was lent is lent still, and what no message changes is as it was
   abbrev Lends : S → S → Type 0
-  Lends x x' = (r.lent (r.of x').desk ≡ r.lent (r.of x).desk) × (r.note x' ≡ r.note x)
+  Lends x x' = (r.lent (r.of x').desk ≡ r.lent (r.of x).desk) × (r.kept x' ≡ r.kept x)
 
   -- ---- messages
 
@@ -154,27 +181,28 @@ module _ {B C D S : Type 0} (bus : Ghosts B) (tells : C → ℕ → C → Type 0
 
   -- a message of this meaning
   answers-so : (m : Meaning) (x x' : S) (pass : PassView Group) (message : List ℕ) (reply : Option (List ℕ)) → (shown x).desk.pass ≡ Some pass → made_by pass.number pass.seen ≡ pass.own
-      → KnowsOwn pass (shown x).desk.conn (shown x).made → DeskAnswers ways role.Core x m reply x' → Does bus tells (first x) (shown x) pass m message reply (shown x') × Lends x x'
-  answers-so Junk x x' pass message None had own knows did = (inl (refl, ap shown did), (ap (λ (s : S). r.lent (r.of s).desk) did, ap r.note did))
+      → KnowsOwn pass (shown x).desk.conn (shown x).made → DeskAnswers ways role.Core x m reply x' → Does bus tells (first x) (shown x) pass (means (r.kept x) m) message reply (shown x') × Lends x x'
+  answers-so Junk x x' pass message None had own knows did = (inl ((is_reading (r.kept x)).junk, ap shown did), (ap (λ (s : S). r.lent (r.of s).desk) did, ap r.kept did))
   answers-so (Answered text) x x' pass message (Some reply) had own knows did = (
-    rw did.1 (step-still bus tells (first x) (shown x) pass had own knows (Answered text) (record { message = message; reply = reply }) None (shown x).note refl ((refl, refl, did.0), refl) (Appends-nil (shown x).note.bytes) (omega arith)),
-    (ap (λ (s : S). r.lent (r.of s).desk) did.1, ap r.note did.1),
+    subst (λ m. Does bus tells (first x) (shown x) pass m message (Some reply) (shown x')) (sym ((is_reading (r.kept x)).answered text))
+        (rw did.1 (step-still bus tells (first x) (shown x) pass had own knows (Answered text) (record { message = message; reply = reply }) None (shown x).note refl ((refl, refl, did.0), refl) (Appends-nil (shown x).note.bytes) (omega arith))),
+    (ap (λ (s : S). r.lent (r.of s).desk) did.1, ap r.kept did.1),
   )
   answers-so (Asks xid call) x x' pass message reply had own knows did =
       let asked = r.ruled_asks x x' xid call reply did.1 in
-      let does = does-so x x' pass xid call message reply had own knows asked.0.denied asked.0.by_rules asked.0.does in
-      (does.0, (does.1, asked.1))
+      let does = does-so x x' pass xid (reads (r.kept x) call) message reply had own knows asked.0.denied asked.0.by_rules asked.0.does in
+      (subst (λ m. Does bus tells (first x) (shown x) pass m message reply (shown x')) (sym ((is_reading (r.kept x)).asked xid call)) does.0, (does.1, asked.1))
   answers-so (Aborts xid lid) x x' pass message (Some reply) had own knows did = let core = did.0 in absurd (cc)
   answers-so _ x x' pass message _ had own knows did = absurd did
 
   -- those of a stream, one after the other
   all-so : (x last : Attending S) (pass : PassView Group) (list : List stream.Answered) → x.role ≡ role.Core → (shown x.desk).desk.pass ≡ Some pass → made_by pass.number pass.seen ≡ pass.own
       → KnowsOwn pass (shown x.desk).desk.conn (shown x.desk).made → stream.AnswersAll (Attends ways) x list last
-      → GuardsAll bus tells (first x.desk) (shown x.desk) pass list (shown last.desk) × (last.role ≡ role.Core) × Lends x.desk last.desk
+      → GuardsAll bus tells (first x.desk) (meant (r.kept x.desk)) (shown x.desk) pass list (shown last.desk) × (last.role ≡ role.Core) × Lends x.desk last.desk
   all-so x last pass [] core had own knows all = (
-    guards-none bus tells (first x.desk) (shown x.desk) (shown last.desk) pass had own knows (ap (λ (y : Attending S). shown y.desk) all),
+    guards-none bus tells (first x.desk) (meant (r.kept x.desk)) (shown x.desk) (shown last.desk) pass had own knows (ap (λ (y : Attending S). shown y.desk) all),
     ap (λ (y : Attending S). y.role) all ∙ core,
-    (ap (λ (y : Attending S). r.lent (r.of y.desk).desk) all, ap (λ (y : Attending S). r.note y.desk) all),
+    (ap (λ (y : Attending S). r.lent (r.of y.desk).desk) all, ap (λ (y : Attending S). r.kept y.desk) all),
   )
   all-so x last pass (one ∷ more) core had own knows all =
       let mid = all.0 in
@@ -183,7 +211,7 @@ module _ {B C D S : Type 0} (bus : Ghosts B) (tells : C → ℕ → C → Type 0
       let one-so = answers-so m x.desk mid.desk pass one.message (Some one.reply) had own knows did in
       let step = one-so.0 in
       let rest = all-so mid last step.pass' more (all.1.role ∙ core) step.has step.own step.knows all.2 in (
-        guards-more bus tells (first x.desk) (shown x.desk) (shown mid.desk) (shown last.desk) pass one more step (rw (ap (λ (l : Lent B). l.3) one-so.1.0) at rest.0),
+        guards-more bus tells (first x.desk) (meant (r.kept x.desk)) (shown x.desk) (shown mid.desk) (shown last.desk) pass one more step (rw (ap (λ (l : Lent B). l.3) one-so.1.0, one-so.1.1) at rest.0),
         rest.1,
         (rest.2.0 ∙ one-so.1.0, rest.2.1 ∙ one-so.1.1),
       )
@@ -194,18 +222,18 @@ module _ {B C D S : Type 0} (bus : Ghosts B) (tells : C → ℕ → C → Type 0
   ends-so : (last x' : Attending S) (pass : PassView Group) (seen : LinkShown) (list : List stream.Answered) (looked : Split) (behind unsent : List ℕ) (seen' : LinkShown) (how : End) → last.role ≡ role.Core
       → (shown last.desk).desk.pass ≡ Some pass → made_by pass.number pass.seen ≡ pass.own → KnowsOwn pass (shown last.desk).desk.conn (shown last.desk).made
       → EndsSo (λ message. Attends ways last message None x') seen list looked behind unsent seen' (Some how) → IsLeft (Some how) last x'
-      → WhyEnded (shown last.desk) (shown x'.desk) seen list looked behind unsent seen' how × Lends last.desk x'.desk
+      → WhyEnded (meant (r.kept last.desk)) (shown last.desk) (shown x'.desk) seen list looked behind unsent seen' how × Lends last.desk x'.desk
   ends-so last x' pass seen list looked behind unsent seen' (end.Junk count) core had own knows ended left =
       let did : DeskAnswers ways role.Core last.desk (meaning ended.1 role.Core) None x'.desk = rw core at ended.4.answers in
       let one = answers-so (meaning ended.1 role.Core) last.desk x'.desk pass ended.1 None had own knows did in
       (by one.0, one.1)
     where
-      by : ((meaning ended.1 role.Core ≡ Junk) × (shown x'.desk ≡ shown last.desk)) ⊎ NoteFails (shown last.desk) (meaning ended.1 role.Core) (shown x'.desk)
-          → WhyEnded (shown last.desk) (shown x'.desk) seen list looked behind unsent seen' (end.Junk count)
+      by : ((meant (r.kept last.desk) ended.1 role.Core ≡ Junk) × (shown x'.desk ≡ shown last.desk)) ⊎ NoteFails (shown last.desk) (meant (r.kept last.desk) ended.1 role.Core) (shown x'.desk)
+          → WhyEnded (meant (r.kept last.desk)) (shown last.desk) (shown x'.desk) seen list looked behind unsent seen' (end.Junk count)
       by (inl junk) = inl (junk.1, (ended.0, ended.1, ended.2, ended.3, junk.0))
       by (inr fails) = inr (ended.1, fails, ended.2, ended.0)
   ends-so last x' pass seen list looked behind unsent seen' how core had own knows ended left =
-      (inl (ap (λ (y : Attending S). shown y.desk) left, ended), (ap (λ (y : Attending S). r.lent (r.of y.desk).desk) left, ap (λ (y : Attending S). r.note y.desk) left))
+      (inl (ap (λ (y : Attending S). shown y.desk) left, ended), (ap (λ (y : Attending S). r.lent (r.of y.desk).desk) left, ap (λ (y : Attending S). r.kept y.desk) left))
 
   -- what a session did, by the pass, the clock, the dial and the note as they are left
   pub record Session {L : Type 0} (of_link : OfLink L) (x : S) (pass : PassView Group) (link : L) (how : End) (x' : S) (link' : L) : Type 0 where
@@ -213,7 +241,7 @@ module _ {B C D S : Type 0} (bus : Ghosts B) (tells : C → ℕ → C → Type 0
     pub later : (shown x).desk.told ≤ (shown x').desk.told
     pub did : (pass' : PassView Group) (told : ℕ) (clock : C) (dial : DialShown) (note : Ends) (end' : GuardEnd) → (shown x').desk.pass ≡ Some pass' → (shown x').desk.told ≡ told
         → (shown x').desk.clock ≡ clock → (shown x').desk.dial ≡ dial → (shown x').note ≡ note → end' ≡ guard_end (shown x').failed how
-        → GuardDid (origin bus (first x)) of_link (Clocked tells (shown x).desk.clock clock) told (shown x).rules (shown x).peer (shown x).desk.conn
+        → GuardDid (meant (r.kept x)) (origin bus (first x)) of_link (Clocked tells (shown x).desk.clock clock) told (shown x).rules (shown x).peer (shown x).desk.conn
         (record { pass = pass; link = link; dial = (shown x).desk.dial; note = (shown x).note }) end' (record { pass = pass'; link = link'; dial = dial; note = note })
 
   pub session-so : {L : Type 0} (of_link : OfLink L) (x x' : S) (pass : PassView Group) (link link' : L) (how : End) → (shown x).desk.pass ≡ Some pass → (shown x).failed ≡ false → (shown x).made ≡ []
@@ -229,7 +257,8 @@ module _ {B C D S : Type 0} (bus : Ghosts B) (tells : C → ℕ → C → Type 0
       let ends = ends-so answered.last did.last all.pass' (link_shown of_link link) answered.answered looked answered.behind answered.unsent (link_shown of_link link') how run.1 all.has all.own all.knows answered.ended answered.left in
       let gone = r.ruled_leaves did.last.desk x' did.leaves in
       let goes = r.leaves (r.of did.last.desk).desk (r.of x').desk gone.0.leaves in
-      let desk = same-desk last (shown did.last.desk) (link_shown of_link link) answered.answered looked answered.behind answered.unsent (link_shown of_link link') how ends.0 in
+      let why = subst (λ k. WhyEnded (meant k) last (shown did.last.desk) (link_shown of_link link) answered.answered looked answered.behind answered.unsent (link_shown of_link link') how) run.2.1 ends.0 in
+      let desk = same-desk (meant (r.kept x)) last (shown did.last.desk) (link_shown of_link link) answered.answered looked answered.behind answered.unsent (link_shown of_link link') how why in
       let left : OneBusLeaves (origin bus (first x)) last.desk (shown x').desk = rw (ends.1.0 ∙ run.2.0, desk) at goes.0 in
       let went = all.later in
       let told_on = left.still.told in
@@ -251,18 +280,18 @@ module _ {B C D S : Type 0} (bus : Ghosts B) (tells : C → ℕ → C → Type 0
               behind = answered.behind;
               written = answered.written;
               unsent = answered.unsent;
-              each = subst (λ m. Guards (origin bus (first x)) pass.number s.desk.conn s.rules s.peer m all.items last.made) fresh all.each;
+              each = subst (λ m. Guards (meant (r.kept x)) (origin bus (first x)) pass.number s.desk.conn s.rules s.peer m all.items last.made) fresh all.each;
               makes = makes;
               down = leaves.events;
               cut = leaves.steps;
-              knows = knows-links (origin bus (first x)) laws.links (laws.called (first x)) laws.read_made laws.read_done laws.alike s.desk.conn s.rules s.peer pass pass'.seen all.items leaves.placed own idle makes.chain leaves.turns.history.lawful;
+              knows = knows-links (meant (r.kept x)) (origin bus (first x)) laws.links (laws.called (first x)) laws.read_made laws.read_done laws.alike s.desk.conn s.rules s.peer pass pass'.seen all.items leaves.placed own idle makes.chain leaves.turns.history.lawful;
               bytes = answered.progress.bytes;
               goes = answered.progress.goes;
               wrote = ap stream.replies all.are ∙ answered.wrote;
               near = answered.near;
               in_turn = rw all.are answered.in_turn;
               ended = rw (end_is ∙ ap (λ (z : RuledState D). guard_end z.failed how) gone.0.same, sym note_is ∙ ap (λ (z : RuledState D). z.note) gone.0.same, all.are)
-                  (ends-guarded bus tells (first x) s last (shown did.last.desk) pass answered.answered all (link_shown of_link link) looked answered.behind answered.unsent (link_shown of_link link') how sound ends.0);
+                  (ends-guarded (meant (r.kept x)) bus tells (first x) s last (shown did.last.desk) pass answered.answered all (link_shown of_link link) looked answered.behind answered.unsent (link_shown of_link link') how sound why);
               asks = rw (sym clock_is ∙ left.still.clock) all.asks;
               rings = rw (sym dial_is ∙ left.still.dial) all.rings;
               upholds = upholds (origin bus (first x)) laws.claims laws.owned pass' leaves.turns.history;
@@ -277,7 +306,7 @@ module _ {B C D S : Type 0} (bus : Ghosts B) (tells : C → ℕ → C → Type 0
     pub later : (shown x).desk.told ≤ (shown x').desk.told
     pub did : (pass' : PassView Group) (told : ℕ) (clock : C) (dial : DialShown) (note : Ends) (how' : Guarded) → (shown x').desk.pass ≡ Some pass' → (shown x').desk.told ≡ told
         → (shown x').desk.clock ≡ clock → (shown x').desk.dial ≡ dial → (shown x').note ≡ note → how' ≡ guarded_as (shown x').failed how
-        → GuardLinkDid (origin bus (first x)) of_link (Clocked tells (shown x).desk.clock clock) told (shown x).rules
+        → GuardLinkDid (meant (r.kept x)) (origin bus (first x)) of_link (Clocked tells (shown x).desk.clock clock) told (shown x).rules
         (record { pass = pass; link = link; dial = (shown x).desk.dial; note = (shown x).note }) how' (record { pass = pass'; link = link'; dial = dial; note = note })
 
   -- its connection was refused
@@ -305,7 +334,7 @@ module _ {B C D S : Type 0} (bus : Ghosts B) (tells : C → ℕ → C → Type 0
   pub link-so : {L : Type 0} (of_link : OfLink L) (x x' : S) (pass : PassView Group) (link link' : L) (how : Linked) → (shown x).desk.pass ≡ Some pass → (shown x).failed ≡ false
       → made_by pass.number pass.seen ≡ pass.own → IsPeer (of_link.peers link) (shown x).peer
       → DeskLink ways of_link role.Core (record { server = x; link = link }) how (record { server = x'; link = link' }) → Link of_link x pass link how x' link'
-  link-so of_link x x' pass link link' (linked.Ended how) had sound own is_peer did =
+  link-so {L} of_link x x' pass link link' (linked.Ended how) had sound own is_peer did =
       let up = did.up in
       let ruled = r.ruled_joins x up (Ok tt) did.joins in
       let same = ruled.0.same in
@@ -320,15 +349,11 @@ module _ {B C D S : Type 0} (bus : Ghosts B) (tells : C → ℕ → C → Type 0
         did = λ pass' told clock dial note how' has told_is clock_is dial_is note_is how_is.
             let was = run.did pass' told clock dial note (guard_end (shown x').failed how) has told_is clock_is dial_is note_is refl in
             let session = rw (ap (λ (l : Lent B). l.3) j.1, j.0.still.clock, j.0.still.dial, ap (λ (z : RuledState D). z.rules) same, ap (λ (z : RuledState D). z.peer) same, ap (λ (z : RuledState D). z.note) same) at was in
-            rw how_is (record {
-              conn = (shown up).desk.conn;
-              up = j.0.pass';
-              joins = joined;
-              peer = (shown x).peer;
-              is_peer = is_peer;
-              did = session;
-              knows = session.knows history.core.interleaved history.became.state (joined-none (origin bus (first x)) laws.links pass j.0.pass' (shown up).desk.conn joined owns);
-            });
+            let before : GuardHolding L = record { pass = pass; link = link; dial = (shown x).desk.dial; note = (shown x).note } in
+            let after : GuardHolding L = record { pass = pass'; link = link'; dial = dial; note = note } in
+            rw how_is (subst (λ k. HadGuarded (meant k) (origin bus (first x)) of_link (Clocked tells (shown x).desk.clock clock) told (shown x).rules before (guard_end (shown x').failed how) after) ruled.1
+            (had-guarded (meant (r.kept up)) (origin bus (first x)) of_link (Clocked tells (shown x).desk.clock clock) told (shown x).rules before (guard_end (shown x').failed how) after (shown up).desk.conn
+            j.0.pass' joined (shown x).peer is_peer session (joined-none (origin bus (first x)) laws.links pass j.0.pass' (shown up).desk.conn joined owns)));
       }
   link-so of_link x x' pass link link' linked.Full had sound own is_peer did =
       let no = refused-so x x' pass link link' connect.Full had did.0 did.1 in

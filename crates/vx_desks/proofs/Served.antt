@@ -5,6 +5,7 @@ use Rattle.std.specs.Io.KnownBytes.{Appends}
 use Rattle.std.proofs.KnownBytes.{Appends-nil, Appends-trans}
 use Rattle.std.proofs.lemmas.Option.{same_Some}
 use Rattle.vx_io_traits.specs.declared.dials.Rang.{Rang}
+use Rattle.vx_calls.specs.declared.calls.Role.{Role}
 use Rattle.vx_calls.specs.declared.calls.Role.TheVariants as role
 use Rattle.vx_calls.specs.Call.{Call}
 use Rattle.vx_488.specs.declared.bus.Bus.{Ghosts}
@@ -14,7 +15,7 @@ use Rattle.vx_gate.specs.PassView.{PassView}
 use Rattle.vx_text.specs.Ends.{End}
 use Rattle.vx_text.specs.Writing.{StopsIn}
 use Rattle.vx_group.specs.Groups.{Group}
-use Rattle.vx_exchange.specs.Meaning.{Meaning, Junk, Asks, meaning}
+use Rattle.vx_exchange.specs.Meaning.{Meaning, Junk, Asks}
 use Rattle.vx_stream.specs.Answered.{Answered}
 use Rattle.vx_session.specs.Origin.{origin}
 use Rattle.vx_session.specs.Placing.{Placed, Makes}
@@ -144,14 +145,14 @@ module _ {B C : Type 0} (bus : Ghosts B) (tells : C → ℕ → C → Type 0) (c
 
   -- ---- messages
 
-  -- These messages of a session, whose pass was this one, were answered, one after the other.
-  pub record GuardsAll (s : GuardState C) (pass : PassView Group) (list : List Answered) (s' : GuardState C) : Type 0 where
+  -- These messages of a session, whose pass was this one, were answered, one after the other, where `means` is what each means.
+  pub record GuardsAll (means : List ℕ → Role → Meaning) (s : GuardState C) (pass : PassView Group) (list : List Answered) (s' : GuardState C) : Type 0 where
     pub items : List Judged
     pub pass' : PassView Group
     pub are : answered (served items) ≡ list
     pub has : s'.desk.pass ≡ Some pass'
     pub makes : Makes s'.desk.told pass (placed (served items)) pass'
-    pub each : Guards (origin bus core) pass.number s.desk.conn s.rules s.peer s.made items s'.made
+    pub each : Guards means (origin bus core) pass.number s.desk.conn s.rules s.peer s.made items s'.made
     pub asks : Clocked tells s.desk.clock s'.desk.clock (placed (served items))
     pub rings : Rings s.desk.dial (placed (served items)) (calls (served items)) s'.desk.dial
     pub noted : Appends s.note.bytes s'.note.bytes (notes s.desk.conn items)
@@ -162,8 +163,8 @@ module _ {B C : Type 0} (bus : Ghosts B) (tells : C → ℕ → C → Type 0) (c
     pub knows : KnowsOwn pass' s'.desk.conn s'.made
 
   -- no message was answered
-  pub guards-none : (s s' : GuardState C) (pass : PassView Group) → s.desk.pass ≡ Some pass → made_by pass.number pass.seen ≡ pass.own → KnowsOwn pass s.desk.conn s.made → s' ≡ s → GuardsAll s pass [] s'
-  guards-none s s' pass had own knows same = rw same (record {
+  pub guards-none : (means : List ℕ → Role → Meaning) (s s' : GuardState C) (pass : PassView Group) → s.desk.pass ≡ Some pass → made_by pass.number pass.seen ≡ pass.own → KnowsOwn pass s.desk.conn s.made → s' ≡ s → GuardsAll means s pass [] s'
+  guards-none means s s' pass had own knows same = rw same (record {
     items = [];
     pass' = pass;
     are = refl;
@@ -181,9 +182,9 @@ module _ {B C : Type 0} (bus : Ghosts B) (tells : C → ℕ → C → Type 0) (c
   })
 
   -- one was answered, and then more of them
-  pub guards-more : (s mid s' : GuardState C) (pass : PassView Group) (one : Answered) (more : List Answered) (first : Step s pass (meaning one.message role.Core) one mid) → GuardsAll mid first.pass' more s'
-      → GuardsAll s pass (one ∷ more) s'
-  guards-more s mid s' pass one more first rest =
+  pub guards-more : (means : List ℕ → Role → Meaning) (s mid s' : GuardState C) (pass : PassView Group) (one : Answered) (more : List Answered) (first : Step s pass (means one.message role.Core) one mid) → GuardsAll means mid first.pass' more s'
+      → GuardsAll means s pass (one ∷ more) s'
+  guards-more means s mid s' pass one more first rest =
       let earlier = first.later in
       let later = rest.later in
       let before = first.counted in

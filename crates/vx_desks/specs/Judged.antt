@@ -3,12 +3,13 @@
 use Rattle.std.specs.Prelude.{◌≡◌, ℕ, if◌then◌else◌, List, [], ◌∷◌, map, Option, Some, None}
 use Rattle.std.specs.List.{flat_map}
 use Rattle.vx_calls.specs.declared.codes.ErrorCode.TheVariants as code
+use Rattle.vx_calls.specs.declared.calls.Role.{Role}
 use Rattle.vx_calls.specs.declared.calls.Role.TheVariants as role
 use Rattle.vx_calls.specs.Call.{Call}
 use Rattle.vx_session.specs.Origin.{Origin}
 use Rattle.vx_rules.specs.Calls.{proc_of}
 use Rattle.vx_rules.specs.Effects.{stopped_reply}
-use Rattle.vx_exchange.specs.Meaning.{Meaning, Asks, meaning, reply_record}
+use Rattle.vx_exchange.specs.Meaning.{Meaning, Asks, reply_record}
 use Rattle.vx_session.specs.Serving.{Item, IsSessionServed}
 use Rattle.vx_policy.specs.declared.made.MadeLink.{MadeLink}
 use Rattle.vx_policy.specs.declared.policy.Verdict.{Verdict}
@@ -60,14 +61,14 @@ abbrev pub IsGuarded : {B : Type 0} → Origin B → (number conn : ℕ) → Lis
 IsGuarded g number conn made m None item made' = IsAllowed g number conn made m item made'
 IsGuarded g number conn made m (Some rule) item made' = IsDenied made m item made'
 
--- The messages of a session on this connection, by the pass of this number, each by what the rules say of it: the session knew the
--- links `made` before, and knows `made'` then.
-abbrev pub Guards : {B : Type 0} → Origin B → (number conn : ℕ) → List Rule → (peer : ℕ) → List MadeLink → List Judged → List MadeLink → Type 0
-Guards g number conn rules peer made [] made' = made' ≡ made
-Guards g number conn rules peer made (j ∷ later) made' =
-    (j.denial ≡ denial rules peer made (meaning j.served.answered.message role.Core))
-    × (mid : List MadeLink) × IsGuarded g number conn made (meaning j.served.answered.message role.Core) j.denial j.served mid
-    × Guards g number conn rules peer mid later made'
+-- The messages of a session on this connection, where `means` is what each means, by the pass of this number, each by what the rules say
+-- of it: the session knew the links `made` before, and knows `made'` then.
+abbrev pub Guards : {B : Type 0} → (List ℕ → Role → Meaning) → Origin B → (number conn : ℕ) → List Rule → (peer : ℕ) → List MadeLink → List Judged → List MadeLink → Type 0
+Guards means g number conn rules peer made [] made' = made' ≡ made
+Guards means g number conn rules peer made (j ∷ later) made' =
+    (j.denial ≡ denial rules peer made (means j.served.answered.message role.Core))
+    × (mid : List MadeLink) × IsGuarded g number conn made (means j.served.answered.message role.Core) j.denial j.served mid
+    × Guards means g number conn rules peer mid later made'
 
 -- the line of a denial
 abbrev pub note_of : ℕ → Option ℕ → List ℕ

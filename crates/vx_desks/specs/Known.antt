@@ -8,6 +8,8 @@ use Rattle.vx_group.specs.InterleavedState.{InterleavedState}
 use Rattle.vx_group.specs.Groups.{Group, StandsFor}
 use Rattle.vx_session.specs.Origin.{Origin}
 use Rattle.vx_session.specs.Progress.{placed}
+use Rattle.vx_calls.specs.declared.calls.Role.{Role}
+use Rattle.vx_exchange.specs.Meaning.{Meaning}
 use Rattle.vx_policy.specs.declared.made.MadeLink.{MadeLink}
 use Rattle.vx_policy.specs.declared.rules.Rule.{Rule}
 use Rattle.vx_desks.specs.Judged.{Judged, Guards, served}
@@ -29,7 +31,7 @@ pub record IsMoment (seen : List (Logged Group)) (number : ℕ) (own : List Grou
 
 -- At each moment between two messages of a session, whose history is `seen` at its end, the links that it knows are exactly those
 -- that the connection has: `front` are the messages before, `made` the links that it knows by them.
-abbrev pub KnowsLinks : {B : Type 0} → Origin B → (number conn : ℕ) → List Rule → (peer : ℕ) → (own : List Group) → List Judged → (seen : List (Logged Group)) → Type 0
-KnowsLinks g number conn rules peer own items seen =
-    (front later : List Judged) (made : List MadeLink) (log : List (Logged Group)) (f : InterleavedState) → items ≡ front ++ later → Guards g number conn rules peer [] front made
+abbrev pub KnowsLinks : {B : Type 0} → (List ℕ → Role → Meaning) → Origin B → (number conn : ℕ) → List Rule → (peer : ℕ) → (own : List Group) → List Judged → (seen : List (Logged Group)) → Type 0
+KnowsLinks means g number conn rules peer own items seen =
+    (front later : List Judged) (made : List MadeLink) (log : List (Logged Group)) (f : InterleavedState) → items ≡ front ++ later → Guards means g number conn rules peer [] front made
     → IsMoment seen number own front log f → numbers_had f conn ≡ numbers_known made

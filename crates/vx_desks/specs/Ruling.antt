@@ -1,11 +1,10 @@
 -- What a desk does whose calls are judged by rules: what the desk below does, but for the calls that a rule denies.
 use Rattle.std.specs.Prelude.{◌≡◌, ◌≤◌, ◌<◌, ◌||◌, ℕ, Bool, List, [], length, Option, None, Some, Result}
 use Rattle.std.specs.Option.{is_none}
-use Rattle.vx_io_traits.specs.declared.Sink.{Ghosts as OfSink}
 use Rattle.vx_calls.specs.declared.calls.Role.{Role}
 use Rattle.vx_calls.specs.declared.limits.TheConstants.{LINK_MAX}
 use Rattle.vx_calls.specs.Call.{Call}
-use Rattle.vx_text.specs.Ends.{End, sink_shown}
+use Rattle.vx_text.specs.Ends.{End}
 use Rattle.vx_exchange.specs.Meaning.{Asks}
 use Rattle.vx_state.specs.declared.tables.Connect.{Connect}
 use Rattle.vx_session.specs.declared.desks.Desk.{Ghosts}
@@ -25,10 +24,10 @@ pub record RuledState (D : Type 0) : Type 0 where
   pub note : End
   pub failed : Bool
 
--- what it is, by what the type of its note tells
-abbrev pub ruled_state : {D K : Type 0} → OfSink K → D → List Rule → (peer : ℕ) → List MadeLink → K → (failed : Bool) → RuledState D
-ruled_state by_sink desk rules peer made note failed =
-    record { desk = desk; rules = rules; peer = peer; made = made; note = sink_shown by_sink note; failed = failed }
+-- what it is, by what its note took
+abbrev pub ruled_state : {D N : Type 0} → (N → End) → D → List Rule → (peer : ℕ) → List MadeLink → N → (failed : Bool) → RuledState D
+ruled_state took desk rules peer made note failed =
+    record { desk = desk; rules = rules; peer = peer; made = made; note = took note; failed = failed }
 
 -- A connection comes up at the desk below, or is refused there. No link of it is known yet.
 pub record RuledJoins {D : Type 0} (ways : Ghosts D) (s : RuledState D) (r : Role) (answer : Result Unit Connect) (s' : RuledState D) : Type 0 where

@@ -22,13 +22,14 @@ mod ruled_links;
 mod ruled_sessions;
 
 pub use asking::FleetWorker;
+pub use denying::Note;
 pub use fleet::{Gates, GatesRefused, Passes};
 pub use fleet_desk::Fleet;
 pub use fleet_links::{LinkServer, many_link};
 pub use fleet_sessions::{many_abort, many_session};
 pub use named::Named;
 pub use named_laws::names_law;
-pub use named_links::named_link;
+pub use named_links::{Lab, lab_link, named_link};
 pub use routes::{Count, fewer_law, four_law, global, local};
 pub use ruled::Ruled;
 pub use ruled_links::{Gateway, Guarded, Kit, guarded_link};

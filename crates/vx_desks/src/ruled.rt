@@ -8,31 +8,30 @@ ghost use Rattle.vx_policy.specs.Targets.{call_target};
 ghost use Rattle.vx_desks.specs.Judged.{denied_by};
 ghost use Rattle.vx_desks.specs.Ruling.{ruled_state, LearnsBy, RuledJoins, RuledAsks, RuledAborts, RuledLeaves};
 
-use crate::denying::deny;
+use crate::denying::{Note, deny};
 use std::alloc::Global;
 use vx_calls::{CallRef, Role};
 use vx_core::Connect;
-use vx_io_traits::Sink;
 use vx_policy::{KnownLinks, Policy, Verdict, proc_of};
 use vx_session::{Desk, Request};
 
 /// A desk over another, whose calls are judged by the rules of a policy as they come. A call that a rule denies doesn't reach the desk
-/// below: the line `deny CONN RULE` goes to the note, with the desk's number, and then its reply has the error `NotAccessible` (3), and
+/// below: it is told to the note, with the desk's number and the rule's, and then its reply has the error `NotAccessible` (3), and
 /// all else is zero or empty. Where the note fails there is no reply, and the session ends.
 #[derive(Drop)]
-pub struct Ruled<'p, 'm, 'n, D, K> {
+pub struct Ruled<'p, 'm, 'n, D, N> {
     pub desk: D,
     pub policy: &'p Policy,
     /// The IPv4 address of the peer, its first part in the high byte.
     pub peer: u32,
     /// The links that its connection made and didn't destroy, as their calls were answered here.
     pub made: &'m mut KnownLinks,
-    pub note: &'n mut K,
+    pub note: &'n mut N,
     /// Whether the note failed.
     pub failed: bool,
 }
 
-impl<'p, 'm, 'n, D: Desk, K: Sink> Desk for Ruled<'p, 'm, 'n, D, K> {
+impl<'p, 'm, 'n, D: Desk, N: Note> Desk for Ruled<'p, 'm, 'n, D, N> {
     ghost number = { λ s. D.number s.desk };
 
     ghost free = { λ s. D.free s.desk };
@@ -40,23 +39,23 @@ impl<'p, 'm, 'n, D: Desk, K: Sink> Desk for Ruled<'p, 'm, 'n, D, K> {
     ghost idle = { λ s r. D.idle s.desk r };
 
     ghost joins = { λ s r answer s'. RuledJoins D.Desk
-        (ruled_state K.Sink s.desk s.policy.now s.peer s.made.now s.note.now s.failed) r answer
-        (ruled_state K.Sink s'.desk s'.policy.now s'.peer s'.made.now s'.note.now s'.failed)
+        (ruled_state N.took s.desk s.policy.now s.peer s.made.now s.note.now s.failed) r answer
+        (ruled_state N.took s'.desk s'.policy.now s'.peer s'.made.now s'.note.now s'.failed)
         × (s'.made.ghost_name ≡ s.made.ghost_name) × (s'.note.ghost_name ≡ s.note.ghost_name) };
 
     ghost asks = { λ s xid call reply s'. RuledAsks D.Desk
-        (ruled_state K.Sink s.desk s.policy.now s.peer s.made.now s.note.now s.failed) xid call reply
-        (ruled_state K.Sink s'.desk s'.policy.now s'.peer s'.made.now s'.note.now s'.failed)
+        (ruled_state N.took s.desk s.policy.now s.peer s.made.now s.note.now s.failed) xid call reply
+        (ruled_state N.took s'.desk s'.policy.now s'.peer s'.made.now s'.note.now s'.failed)
         × (s'.made.ghost_name ≡ s.made.ghost_name) × (s'.note.ghost_name ≡ s.note.ghost_name) };
 
     ghost aborts = { λ s xid lid reply s'. RuledAborts D.Desk
-        (ruled_state K.Sink s.desk s.policy.now s.peer s.made.now s.note.now s.failed) xid lid reply
-        (ruled_state K.Sink s'.desk s'.policy.now s'.peer s'.made.now s'.note.now s'.failed)
+        (ruled_state N.took s.desk s.policy.now s.peer s.made.now s.note.now s.failed) xid lid reply
+        (ruled_state N.took s'.desk s'.policy.now s'.peer s'.made.now s'.note.now s'.failed)
         × (s'.made.ghost_name ≡ s.made.ghost_name) × (s'.note.ghost_name ≡ s.note.ghost_name) };
 
     ghost leaves = { λ s s'. RuledLeaves D.Desk
-        (ruled_state K.Sink s.desk s.policy.now s.peer s.made.now s.note.now s.failed)
-        (ruled_state K.Sink s'.desk s'.policy.now s'.peer s'.made.now s'.note.now s'.failed)
+        (ruled_state N.took s.desk s.policy.now s.peer s.made.now s.note.now s.failed)
+        (ruled_state N.took s'.desk s'.policy.now s'.peer s'.made.now s'.note.now s'.failed)
         × (s'.made.ghost_name ≡ s.made.ghost_name) × (s'.note.ghost_name ≡ s.note.ghost_name) };
 
     fn number(&self) -> u32 {

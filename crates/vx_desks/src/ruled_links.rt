@@ -1,6 +1,7 @@
 //! One link of a guard, from its connect to its end.
 ghost use Rattle.std.specs.Prelude.{◌≡◌, ◌≤◌};
 ghost use Rattle.vx_session.specs.Origin.{origin};
+ghost use Rattle.vx_exchange.specs.Meaning.{meaning};
 ghost use Rattle.vx_door.specs.Going.{Went};
 ghost use Rattle.vx_text.specs.Ends.{sink_shown};
 ghost use Rattle.vx_session.specs.Dialing.{dial_shown};
@@ -80,7 +81,7 @@ pub fn guarded_link<
     note: &mut K,
 ) -> (Pass<Core<B>>, Guarded)
     requires gate { pass.gate ≡ T.gate gateway.now.turns.now }
-    ensures did { GuardLinkDid (origin B.Bus (T.first gateway.now.turns.now)) L.Link (Clocked C.tells kit.old.clock kit.new.clock) (C.told kit.new.clock) policy.now
+    ensures did { GuardLinkDid meaning (origin B.Bus (T.first gateway.now.turns.now)) L.Link (Clocked C.tells kit.old.clock kit.new.clock) (C.told kit.new.clock) policy.now
         (record { pass = pass; link = link.old; dial = dial_shown D.Dial kit.old.dial; note = sink_shown K.Sink note.old }) result.1
         (record { pass = result.0; link = link.new; dial = dial_shown D.Dial kit.new.dial; note = sink_shown K.Sink note.new }) }
     ensures told { C.told kit.old.clock ≤ C.told kit.new.clock }

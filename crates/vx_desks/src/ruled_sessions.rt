@@ -1,6 +1,7 @@
 //! The guarded session of one core connection.
 ghost use Rattle.std.specs.Prelude.{◌≡◌, ◌≤◌, ℕ};
 ghost use Rattle.vx_session.specs.Origin.{origin};
+ghost use Rattle.vx_exchange.specs.Meaning.{meaning};
 ghost use Rattle.vx_door.specs.Going.{Went};
 ghost use Rattle.vx_calls.specs.declared.calls.Role.TheVariants as role;
 ghost use Rattle.vx_group.specs.Phases.{Idle};
@@ -106,7 +107,7 @@ pub fn guarded_session<
 ) -> (Pass<Core<B>>, GuardEnd)
     requires gate { pass.gate ≡ T.gate turns.now }
     requires phase { phase_at pass conn ≡ Idle role.Core }
-    ensures did { (peer : ℕ) × IsPeer (L.peers link.old) peer × GuardDid (origin B.Bus (T.first turns.now)) L.Link (Clocked C.tells clock.old clock.new) (C.told clock.new) policy.now peer conn
+    ensures did { (peer : ℕ) × IsPeer (L.peers link.old) peer × GuardDid meaning (origin B.Bus (T.first turns.now)) L.Link (Clocked C.tells clock.old clock.new) (C.told clock.new) policy.now peer conn
         (record { pass = pass; link = link.old; dial = dial_shown D.Dial dial.old; note = sink_shown K.Sink note.old }) result.1
         (record { pass = result.0; link = link.new; dial = dial_shown D.Dial dial.new; note = sink_shown K.Sink note.new }) }
     ensures told { C.told clock.old ≤ C.told clock.new }

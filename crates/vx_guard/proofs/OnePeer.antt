@@ -8,6 +8,7 @@ use Rattle.vx_io_traits.specs.declared.links.Link.{Ghosts}
 use Rattle.vx_io_traits.proofs.Laws.{rose_earlier}
 use Rattle.vx_peers.specs.Serving.{is_cut}
 use Rattle.vx_peers.proofs.Laws.{ended-spent}
+use Rattle.vx_calls.specs.declared.calls.Role.{Role}
 use Rattle.vx_calls.specs.declared.calls.Role.TheVariants as role
 use Rattle.vx_calls.specs.declared.limits.TheConstants.{CONNECTION_LAST}
 use Rattle.vx_session.specs.Origin.{Origin}
@@ -48,22 +49,22 @@ guarded-steady g number conn made made' m None item is = served-steady g number 
 guarded-steady g number conn made made' m (Some rule) item is = denied-steady made made' m item is
 
 -- nor by those of a session
-items-steady : {B : Type 0} (g : Origin B) (number conn : ℕ) (rules : List Rule) (peer : ℕ) (made : List MadeLink) (items : List Judged) (made' : List MadeLink)
-    → Guards g number conn rules peer made items made' → IsSteady (events_by (placed (served items)))
-items-steady g number conn rules peer made [] made' all = none-steady
-items-steady g number conn rules peer made (j ∷ later) made' all =
-    let one = guarded-steady g number conn made all.1 (meaning j.served.answered.message role.Core) j.denial j.served all.2 in
+items-steady : {B : Type 0} (means : List ℕ → Role → Meaning) (g : Origin B) (number conn : ℕ) (rules : List Rule) (peer : ℕ) (made : List MadeLink) (items : List Judged) (made' : List MadeLink)
+    → Guards means g number conn rules peer made items made' → IsSteady (events_by (placed (served items)))
+items-steady means g number conn rules peer made [] made' all = none-steady
+items-steady means g number conn rules peer made (j ∷ later) made' all =
+    let one = guarded-steady g number conn made all.1 (means j.served.answered.message role.Core) j.denial j.served all.2 in
     subst IsSteady (sym (ap events_by (flat_map-cons (λ (k : Item). k.placed) j.served (served later)) ∙ events_by-append j.served.placed (placed (served later))))
-    (append-steady (events_by j.served.placed) (events_by (placed (served later))) one (items-steady g number conn rules peer all.1 later made' all.3))
+    (append-steady (events_by j.served.placed) (events_by (placed (served later))) one (items-steady means g number conn rules peer all.1 later made' all.3))
 
 -- a pass that goes on by groups of its own is of the same gate, with the same number and as many parts
 can-on : (gate : GateId) (told : ℕ) (pass pass' : PassView Group) (ps : List Placed) → Makes told pass ps pass' → CanServe gate pass → CanServe gate pass'
 can-on gate told pass pass' ps makes can = record { gate_is = makes.gate ∙ can.gate_is; number = makes.number ∙ can.number; parts = makes.parts ∙ can.parts }
 
-module _ {B L : Type 0} (g : Origin B) (ways : Ghosts L) (clocked : List Placed → Type 0) (told : ℕ) (rules : List Rule) where
+module _ {B L : Type 0} (means : List ℕ → Role → Meaning) (g : Origin B) (ways : Ghosts L) (clocked : List Placed → Type 0) (told : ℕ) (rules : List Rule) where
   -- a peer that was cut short was so by a fault of its link
   pub link-cut : (before : GuardHolding L) (how : Guarded) (after : GuardHolding L)
-      → GuardLinkDid g ways clocked told rules before how after
+      → GuardLinkDid means g ways clocked told rules before how after
       → is_cut (is_own how) (is_whole how) (ways.left before.link) (ways.left after.link) ≡ true
       → Rose (ways.receive_faults before.link) (ways.receive_faults after.link) ⊎ Rose (ways.send_faults before.link) (ways.send_faults after.link)
   link-cut before (guarded.Ended (guard.Ended stream.Closed)) after d cut =
@@ -80,7 +81,7 @@ module _ {B L : Type 0} (g : Origin B) (ways : Ghosts L) (clocked : List Placed 
 
   -- the counts of a link don't fall
   pub link-counts : (before : GuardHolding L) (how : Guarded) (after : GuardHolding L)
-      → GuardLinkDid g ways clocked told rules before how after
+      → GuardLinkDid means g ways clocked told rules before how after
       → (ways.receive_faults before.link ≤ ways.receive_faults after.link) × (ways.send_faults before.link ≤ ways.send_faults after.link)
   link-counts before (guarded.Ended how) after d = (d.did.goes.receives, d.did.goes.sends)
   link-counts before guarded.Full after d = as-it-was before.link after.link d.1
@@ -88,7 +89,7 @@ module _ {B L : Type 0} (g : Origin B) (ways : Ghosts L) (clocked : List Placed 
 
   -- the count of the note's faults rises where it failed, and doesn't fall
   pub link-notes : (before : GuardHolding L) (how : Guarded) (after : GuardHolding L)
-      → GuardLinkDid g ways clocked told rules before how after
+      → GuardLinkDid means g ways clocked told rules before how after
       → Notes (is_note_fault how) before.note.faults after.note.faults
   link-notes before (guarded.Ended (guard.Ended how)) after d = d.did.ended.2
   link-notes before (guarded.Ended guard.NoteFault) after d =
@@ -98,24 +99,24 @@ module _ {B L : Type 0} (g : Origin B) (ways : Ghosts L) (clocked : List Placed 
 
   -- a guard can serve another by the pass that it has then
   pub link-can : (gate : GateId) (before : GuardHolding L) (how : Guarded) (after : GuardHolding L)
-      → CanServe gate before.pass → GuardLinkDid g ways clocked told rules before how after → CanServe gate after.pass
+      → CanServe gate before.pass → GuardLinkDid means g ways clocked told rules before how after → CanServe gate after.pass
   link-can gate before (guarded.Ended how) after can d =
       can-on gate told d.up after.pass (placed (served d.did.items) ++ d.did.last ∷ []) d.did.makes (can-on gate 0 before.pass d.up (d.joins.placed ∷ []) d.joins.turns.makes can)
   link-can gate before guarded.Full after can d = can-on gate 0 before.pass after.pass (d.0.placed ∷ []) d.0.turns.makes can
   link-can gate before guarded.NoMemory after can d = can-on gate 0 before.pass after.pass (d.0.placed ∷ []) d.0.turns.makes can
 
   -- Whatever became of the link: among the groups that its pass made as many connections came up as went down, and at most one.
-  link-connects : (before : GuardHolding L) (how : Guarded) (after : GuardHolding L) → GuardLinkDid g ways clocked told rules before how after → ComesAndGoes before.pass after.pass
+  link-connects : (before : GuardHolding L) (how : Guarded) (after : GuardHolding L) → GuardLinkDid means g ways clocked told rules before how after → ComesAndGoes before.pass after.pass
   link-connects before (guarded.Ended how) after had =
       let did = had.did in
       came-and-went g told had.conn role.Core before.pass had.up after.pass (placed (served did.items)) did.last had.joins did.makes
-      (items-steady g had.up.number had.conn rules had.peer [] did.items did.made did.each) did.down
+      (items-steady means g had.up.number had.conn rules had.peer [] did.items did.made did.each) did.down
   link-connects before guarded.Full after had = none-came g role.Core connect.Full before.pass after.pass had.0
   link-connects before guarded.NoMemory after had = none-came g role.Core connect.NoMemory before.pass after.pass had.0
 
   -- and behind one more than so many peers each of its connections went again
   pub link-ready : (gate : GateId) (count : ℕ) (before : GuardHolding L) (how : Guarded) (after : GuardHolding L)
-      → CanServe gate before.pass → IsSessionClear count before.pass → GuardLinkDid g ways clocked told rules before how after → IsGuardReady gate (count + 1) (Some after.pass)
+      → CanServe gate before.pass → IsSessionClear count before.pass → GuardLinkDid means g ways clocked told rules before how after → IsGuardReady gate (count + 1) (Some after.pass)
   link-ready gate count before how after can clear d = record {
     pass = after.pass;
     has = refl;
@@ -125,7 +126,7 @@ module _ {B L : Type 0} (g : Origin B) (ways : Ghosts L) (clocked : List Placed 
 
   -- its connection wasn't refused for want of room
   pub link-room : (count : ℕ) (before : GuardHolding L) (how : Guarded) (after : GuardHolding L)
-      → IsSessionClear count before.pass → count < CONNECTION_LAST → GuardLinkDid g ways clocked told rules before how after → how ≢ guarded.Full
+      → IsSessionClear count before.pass → count < CONNECTION_LAST → GuardLinkDid means g ways clocked told rules before how after → how ≢ guarded.Full
   link-room count before guarded.Full after clear low d is = never-full g count before.pass after.pass role.Core clear low d.0
   link-room count before (guarded.Ended how) after clear low d is = cc
   link-room count before guarded.NoMemory after clear low d is = cc
@@ -138,7 +139,7 @@ ready-first gate pass can seen own = record { pass = pass; has = refl; can = can
 pub notes-on : {B C N : Type 0} (n : GuardShows B C N) (rules : List Rule) (first s s' : GuardHas C) (door door' : N) (how : Guarded) → Notes s.failed first.note.faults s.note.faults
     → GuardsPeer n rules s door how s' door' → Notes s'.failed first.note.faults s'.note.faults
 notes-on n rules first s s' door door' how before did =
-    rw did.failed (by s.failed (is_note_fault how) before (link-notes n.bus n.link (Clocked n.clock s.clock s'.clock) s'.told rules (holding s door) how (holding s' door') did.did))
+    rw did.failed (by s.failed (is_note_fault how) before (link-notes meaning n.bus n.link (Clocked n.clock s.clock s'.clock) s'.told rules (holding s door) how (holding s' door') did.did))
   where
     by : (failed fails : Bool) → Notes failed first.note.faults s.note.faults → Notes fails s.note.faults s'.note.faults → Notes (failed || fails) first.note.faults s'.note.faults
     by true true before one = omega arith

@@ -22,6 +22,7 @@ use Rattle.vx_peers.specs.Outcome.{PeerShows}
 use Rattle.vx_desks.specs.declared.ruled_sessions.GuardEnd.TheVariants as guard
 use Rattle.vx_desks.specs.declared.ruled_links.Guarded.{Guarded}
 use Rattle.vx_desks.specs.declared.ruled_links.Guarded.TheVariants as guarded
+use Rattle.vx_exchange.specs.Meaning.{meaning}
 use Rattle.vx_desks.specs.RuledLinking.{GuardLinkDid}
 use Rattle.vx_desks.specs.Wholes.{GuardHolding}
 
@@ -102,7 +103,7 @@ is_whole _ = true
 -- A peer was served by these rules: it had its guarded session, or none came up, as there was no memory. It is judged by the address
 -- that the door's list of its peers ends with. The door went by receives and sends alone, and the guard knows whether the note failed.
 pub record GuardsPeer {B C N : Type 0} (n : GuardShows B C N) (rules : List Rule) (s : GuardHas C) (door : N) (how : Guarded) (s' : GuardHas C) (door' : N) : Type 0 where
-  pub did : GuardLinkDid n.bus n.link (Clocked n.clock s.clock s'.clock) s'.told rules (holding s door) how (holding s' door')
+  pub did : GuardLinkDid meaning n.bus n.link (Clocked n.clock s.clock s'.clock) s'.told rules (holding s door) how (holding s' door')
   pub later : s.told ≤ s'.told
   pub went : Went n.link.receives n.link.sends door door'
   pub failed : s'.failed ≡ (s.failed || is_note_fault how)

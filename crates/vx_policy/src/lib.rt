@@ -18,3 +18,4 @@ pub use policy::{Policy, PolicyErr, RULES_MAX, TEXT_MAX, Verdict};
 pub use rules::{Peers, Place, Rule};
 pub use texts::{LINE_ROOM, deny_line, form_line, served_line};
 pub use theorems::{one_reading, one_verdict, replies_read, texts_name};
+pub use words::word_of;

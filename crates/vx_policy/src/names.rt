@@ -1,11 +1,11 @@
 //! A table of names for devices.
-ghost use Rattle.std.specs.Prelude.{◌≡◌, ◌≢◌, ◌≤◌, ◌↔◌, [], ◌∷◌, ◌++◌, Ok, Err, None, Some, length, max, find, IsTrue, IfOk, OnOk, OnErr};
-ghost use Rattle.std.specs.Bool.{IsFalse};
+ghost use Rattle.std.specs.Prelude.{◌≡◌, ◌≢◌, ◌≤◌, ◌↔◌, [], ◌∷◌, ◌++◌, Ok, Err, None, Some, length, max, find, IfSome, IfOk, OnOk, OnErr};
 ghost use Rattle.std.specs.Option.{option_copied};
 ghost use Rattle.std.specs.Str.{bytes_eq};
 ghost use Rattle.vx_calls.specs.declared.limits.TheConstants.{DEVICE_MAX};
 ghost use Rattle.vx_policy.specs.declared.names.TheConstants.{NAMES_MAX};
-ghost use Rattle.vx_policy.specs.Names.{are_short, has_name, device_of, equals, names_with};
+ghost use Rattle.vx_policy.specs.Cutting.{cut};
+ghost use Rattle.vx_policy.specs.Names.{RefusedAsSaid, are_short, has_name, device_of, equals, names_with};
 
 use crate::made::NoMemory;
 use crate::words::cut;
@@ -135,15 +135,8 @@ impl NameTable {
     pub fn add(&mut self, name: &[u8], device: &[u8]) -> Result<(), NameRefused>
         ensures added { OnOk result (self.new ≡ self.old ++ (name.now, device.now) ∷ []) }
         ensures refused { OnErr result (self.new ≡ self.old) }
-
-        // When each refusal but that for want of memory comes, in this order.
         ensures formed { result ≢ Err NameRefused.Form }
-        ensures long { (result ≡ Err NameRefused.TooLong) ↔ IsFalse (are_short name.now device.now) }
-        ensures known { (result ≡ Err NameRefused.Known)
-            ↔ (IsTrue (are_short name.now device.now) × IsTrue (has_name self.old name.now)) }
-        ensures many { (result ≡ Err NameRefused.TooMany)
-            ↔ (IsTrue (are_short name.now device.now) × IsFalse (has_name self.old name.now)
-            × (NAMES_MAX ≤ length self.old)) }
+        ensures as_said { RefusedAsSaid self.old name.now device.now result }
     {
         if !are_short(name, device) {
             return Err(NameRefused::TooLong);
@@ -172,6 +165,8 @@ impl NameTable {
         ensures added { OnOk result (names_with self.old text.now ≡ Some self.new) }
         ensures refused { OnErr result (self.new ≡ self.old) }
         ensures other { OnErr result ((result ≢ Err NameRefused.NoMemory) → names_with self.old text.now ≡ None) }
+        ensures formed { (result ≡ Err NameRefused.Form) ↔ (cut equals text.now ≡ None) }
+        ensures as_said { IfSome (cut equals text.now) (λ row. RefusedAsSaid self.old row.0 row.1 result) }
     {
         match cut(text, b'=') {
             Some((name, device)) => self.add(name, device),

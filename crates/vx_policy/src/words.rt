@@ -1,5 +1,5 @@
 //! The words of a rule.
-ghost use Rattle.std.specs.Prelude.{◌≡◌, ◌≢◌, ◌==◌, ◌≤◌, ℕ, Bool, true, false, codes, decimal, option_map, position, IfSome, None, Option};
+ghost use Rattle.std.specs.Prelude.{◌≡◌, ◌≢◌, ◌==◌, ◌≤◌, ℕ, Bool, true, false, codes, decimal, length, option_map, position, IfSome, None, Option};
 ghost use Rattle.vx_calls.specs.declared.calls.Proc.{Proc};
 ghost use Rattle.vx_policy.specs.Cutting.{cut, named, parts, IsUnder};
 ghost use Rattle.vx_policy.specs.Grammar.{allow_text, peers_text, proc_text, place_text, IsPeers, IsNamed, IsPlace};
@@ -114,9 +114,10 @@ const NAMED: [Proc; 15] = [
     Proc::DestroyIntr,
 ];
 
-/// The word of a procedure; nothing for one that has none.
-fn word_of(proc: Proc) -> &'static [u8]
-    ensures { result.now ≡ proc_text (Some proc) }
+/// The word that a rule has for a procedure, of at most 7 bytes; no byte where it has none.
+pub fn word_of(proc: Proc) -> &'static [u8]
+    ensures word { result.now ≡ proc_text (Some proc) }
+    ensures short { length result.now ≤ 7 }
 {
     match proc {
         Proc::CreateLink => b"create",

@@ -2,16 +2,17 @@ use Rattle.std.proofs.Common.{◌≡◌, ◌≤◌, Some, None, refl, sym, ap, �
 use Rattle.std.proofs.lemmas.Option.{none-some}
 use Rattle.vx_text.specs.Ends.{sink_shown}
 use Rattle.vx_session.specs.Dialing.{dial_shown}
+use Rattle.vx_session.proofs.Laws.OneBusSessions.{as_it_is}
 use Rattle.vx_desks.proofs.Ruling.{Lent, seat_of, lent_of, state_of, session-so}
 use Rattle.vx_desks.proofs.ruled_sessions.guarded_session.Goals as goal
 
 pub unreachable-requires : goal.unreachable-requires
 unreachable-requires g c =
-    let run = session-so g.B.Bus g.C.Clock.tells _ _ c.guard_laws.ensures (record {
+    let run = session-so g.B.Bus g.C.Clock.tells (λ _ asked. asked) (λ _ m. m) (λ _. as_it_is) _ _ c.guard_laws.ensures (record {
       seat = seat_of g.C.Clock g.D.Dial;
       lent = lent_of g.T.Turns.first;
-      of = state_of g.K.Sink;
-      note = λ s. s.note.ghost_name;
+      of = state_of (sink_shown g.K.Sink);
+      kept = λ s. s.note.ghost_name;
       core = λ d. refl;
       number = λ d. refl;
       joins = λ d d' answer did. (did.0, λ i. (did.1 i, did.2 i, did.3 i, did.4 i));
@@ -27,11 +28,11 @@ unreachable-requires g c =
 
 pub returns : goal.returns
 returns g c =
-    let run = session-so g.B.Bus g.C.Clock.tells _ _ c.guard_laws.ensures (record {
+    let run = session-so g.B.Bus g.C.Clock.tells (λ _ asked. asked) (λ _ m. m) (λ _. as_it_is) _ _ c.guard_laws.ensures (record {
       seat = seat_of g.C.Clock g.D.Dial;
       lent = lent_of g.T.Turns.first;
-      of = state_of g.K.Sink;
-      note = λ s. s.note.ghost_name;
+      of = state_of (sink_shown g.K.Sink);
+      kept = λ s. s.note.ghost_name;
       core = λ d. refl;
       number = λ d. refl;
       joins = λ d d' answer did. (did.0, λ i. (did.1 i, did.2 i, did.3 i, did.4 i));

@@ -18,7 +18,7 @@ returns-in-Some-clause-asks g c =
         by_rules = sym c.in-Some.is ∙ c.denial.ensures;
         does = record {
           noted = rw c.number-conn.ensures at deny.ensures.noted;
-          same = ap (λ (b : Bool). ruled_state g.K.Sink s.desk s.policy.now s.peer s.made.now deny.new.note b)
+          same = ap (λ (b : Bool). ruled_state g.N.Note.took s.desk s.policy.now s.peer s.made.now deny.new.note b)
               (c.fails-failed.ensures ∙ ap (λ b. s.failed || b) (sym (none-mapped deny.result deny.new.reply)));
         };
       },

@@ -7,7 +7,7 @@ returns-clause-joins g c =
     let s = c.args.self in (
       record {
         joins = c.join-desk.ensures.joins;
-        same = ap (λ made. ruled_state g.K.Sink c.join-desk.result.0 s.policy.now s.peer made s.note.now s.failed) c.clear.ensures;
+        same = ap (λ made. ruled_state g.N.Note.took c.join-desk.result.0 s.policy.now s.peer made s.note.now s.failed) c.clear.ensures;
       },
       refl,
       refl,

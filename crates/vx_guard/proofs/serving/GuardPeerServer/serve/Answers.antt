@@ -7,6 +7,7 @@ use Rattle.vx_session.specs.Counting.{IsSessionClear}
 use Rattle.vx_session.specs.Dialing.{dial_shown}
 use Rattle.vx_session.specs.Origin.{origin}
 use Rattle.vx_session.specs.Progress.{Clocked}
+use Rattle.vx_exchange.specs.Meaning.{meaning}
 use Rattle.vx_desks.specs.RuledLinking.{GuardLinkDid}
 use Rattle.vx_guard.specs.Peers.{CanServe, pass_in}
 use Rattle.vx_desks.specs.Wholes.{GuardHolding}
@@ -37,17 +38,17 @@ returns g c =
     let clear = subst (IsSessionClear c.args._behind) same ready.clear in
     let before = has g c.in-Some.pass c.args.door.now s.kit.now.dial s.note.now in
     let after = has g served.result.0 served.new.link served.new.kit.dial served.new.note in
-    let counts = link-counts bus g.N.Link _ _ _ before served.result.1 after did in
+    let counts = link-counts meaning bus g.N.Link _ _ _ before served.result.1 after did in
     record {
-      can = link-ready bus g.N.Link _ _ _ gate c.args._behind before served.result.1 after (subst (CanServe gate) same ready.can) clear did;
+      can = link-ready meaning bus g.N.Link _ _ _ gate c.args._behind before served.result.1 after (subst (CanServe gate) same ready.can) clear did;
       did = (
         record {
-          did = subst (λ (p : PassView Group). GuardLinkDid bus g.N.Link (Clocked g.C.Clock.tells s.kit.now.clock served.new.kit.clock) (g.C.Clock.told served.new.kit.clock) s.policy.now
+          did = subst (λ (p : PassView Group). GuardLinkDid meaning bus g.N.Link (Clocked g.C.Clock.tells s.kit.now.clock served.new.kit.clock) (g.C.Clock.told served.new.kit.clock) s.policy.now
               (has g p c.args.door.now s.kit.now.dial s.note.now) served.result.1 after) (sym (ap pass_in taken)) did;
           later = served.ensures.told;
           went = served.ensures.went;
           failed = c.fails-failed.ensures;
-          room = link-room bus g.N.Link _ _ _ c.args._behind before served.result.1 after clear (omega (arith, c.requires.few)) did;
+          room = link-room meaning bus g.N.Link _ _ _ c.args._behind before served.result.1 after clear (omega (arith, c.requires.few)) did;
         },
         refl,
         refl,
@@ -55,5 +56,5 @@ returns g c =
       );
       receives = counts.0;
       sends = counts.1;
-      cut = link-cut bus g.N.Link _ _ _ before served.result.1 after did;
+      cut = link-cut meaning bus g.N.Link _ _ _ before served.result.1 after did;
     }

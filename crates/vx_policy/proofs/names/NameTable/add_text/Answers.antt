@@ -35,9 +35,9 @@ returns-in-Some-clause-other c =
     by (Ok x) e = tt
     by (Err why.Form) e = λ other. absurd (c.add.ensures.formed e)
     by (Err why.TooLong) e = λ other. none-with c.args.self.now c.args.text.now c.in-Some.name.now c.in-Some.device.now (sym c.in-Some.ensures)
-        (long-refused c.args.self.now c.in-Some.name.now c.in-Some.device.now (c.add.ensures.long.0 e))
+        (long-refused c.args.self.now c.in-Some.name.now c.in-Some.device.now (c.add.ensures.as_said.0.0 e))
     by (Err why.Known) e = λ other. none-with c.args.self.now c.args.text.now c.in-Some.name.now c.in-Some.device.now (sym c.in-Some.ensures)
-        (known-refused c.args.self.now c.in-Some.name.now c.in-Some.device.now (c.add.ensures.known.0 e).0 (c.add.ensures.known.0 e).1)
+        (known-refused c.args.self.now c.in-Some.name.now c.in-Some.device.now (c.add.ensures.as_said.1.0 e).0 (c.add.ensures.as_said.1.0 e).1)
     by (Err why.TooMany) e = λ other. none-with c.args.self.now c.args.text.now c.in-Some.name.now c.in-Some.device.now (sym c.in-Some.ensures)
-        (many-refused c.args.self.now c.in-Some.name.now c.in-Some.device.now (c.add.ensures.many.0 e).0 (c.add.ensures.many.0 e).1 (c.add.ensures.many.0 e).2)
+        (many-refused c.args.self.now c.in-Some.name.now c.in-Some.device.now (c.add.ensures.as_said.2.0 e).0 (c.add.ensures.as_said.2.0 e).1 (c.add.ensures.as_said.2.0 e).2)
     by (Err why.NoMemory) e = λ other. absurd (other refl)
