@@ -3,12 +3,12 @@ import os
 import signal
 import subprocess
 
-from sockets import aborts, bulk, client, closing, hosts, interrupts, locks, log, mapping, names, records, starting, waits, workers
+from sockets import aborts, bulk, client, closing, hosts, interrupts, locks, log, mapping, names, records, rules, starting, waits, workers
 from sockets.server import end_all, programs
 
 SUBJECTS = {
     subject.__name__.split(".")[-1]: subject
-    for subject in (records, locks, aborts, interrupts, bulk, workers, closing, waits, hosts, starting, client, log, mapping, names)
+    for subject in (records, locks, aborts, interrupts, bulk, workers, closing, waits, hosts, starting, client, log, mapping, names, rules)
 }
 CASE_SECONDS = 900
 

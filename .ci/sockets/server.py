@@ -24,7 +24,7 @@ inst 15 {"rules":[{"in":"*IDN?","out":"ACME,TABLE,1,1.0\\n"}]}
 """
 
 # a line of the log: its moment, its connection with the peer of that, and what is told
-LOGGED = re.compile(r"(0|[1-9][0-9]*) ((?:core|abort) [1-9][0-9]* [0-9.]+:[0-9]+) ((?:came|ended|refused)\b.*)")
+LOGGED = re.compile(r"(0|[1-9][0-9]*) ((?:core|abort) [1-9][0-9]* [0-9.]+:[0-9]+) ((?:came|denied|ended|refused)\b.*)")
 
 PIDFD_GETFD = 438  # the system call
 

@@ -12,8 +12,9 @@ use std::rt::Clock as SystemClock;
 use std::sync::Wait;
 use std::time::Duration;
 use vx_io::{Dial, DialOut, Handed, StdClock, StdPause, Streams, TcpLink};
+use vx_policy::Policy;
 use vx_session::Tools;
-use vx_startup::Logs;
+use vx_startup::{Logs, Rules};
 
 /// How long a dial waits for its peer to come up, and a send for it to take what it is sent, in milliseconds.
 const PEER_WAITS: u64 = 5_000;
@@ -103,7 +104,7 @@ impl Streams for TcpStreams {
     }
 }
 
-/// Clocks and pauses of the host, dials and streams of TCP, and logs on standard error.
+/// Clocks and pauses of the host, dials and streams of TCP, logs on standard error, and access rules that it was given.
 #[derive(Drop)]
 pub struct TcpTools<R> {
     rt: R,
@@ -111,17 +112,19 @@ pub struct TcpTools<R> {
     dialed: Receiver<Dialed>,
     stderr: Stderr,
     has_log: bool,
+    policy: Option<Policy>,
 }
 
 impl<R> TcpTools<R> {
     /// Tools over this runtime, whose dials hand their streams over by this channel, and whose logs go to this standard error
-    /// where there is a log.
+    /// where there is a log; and with these access rules, where there are some.
     pub fn new(
         rt: R,
         pumps: Sender<Dialed>,
         dialed: Receiver<Dialed>,
         stderr: Stderr,
         has_log: bool,
+        policy: Option<Policy>,
     ) -> TcpTools<R> {
         TcpTools {
             rt,
@@ -129,6 +132,7 @@ impl<R> TcpTools<R> {
             dialed,
             stderr,
             has_log,
+            policy,
         }
     }
 }
@@ -138,6 +142,12 @@ impl<R> Logs for TcpTools<R> {
 
     fn log(&mut self) -> ErrorLog {
         ErrorLog::new(self.stderr, self.has_log)
+    }
+}
+
+impl<R> Rules for TcpTools<R> {
+    fn rules(&mut self) -> Option<Policy> {
+        self.policy.take()
     }
 }
 

@@ -1,5 +1,7 @@
 -- A server that ends before it comes to its ports ends as its words, its bench and its box say.
-use Rattle.std.proofs.Common.{ℕ, List, [], ◌∷◌, Ok, Err, refl, sym, subst, inl, inr}
+use Rattle.std.proofs.Common.{ℕ, List, [], ◌∷◌, Ok, Err, Option, refl, sym, subst, inl, inr}
+use Rattle.std.specs.Prelude.{String}
+use Rattle.std.specs.declared.alloc.Global.{Global}
 use Rattle.vx_text.specs.Ends.{End}
 use Rattle.vx_text.specs.declared.input.Input.{Input}
 use Rattle.vx_text.specs.declared.input.Input.TheVariants as input
@@ -29,7 +31,7 @@ module _ {L : Type 0} (w : LinkWords L) (link : L) where
   -- at the words behind the box
   asked_so : (place : Place) (request : Asked) (source : End) (sink sink' : End) (how : ServerStatus) (net : NetShown) (refused tally : ℕ)
       → EndsUnserved request sink sink' how → EndsRelayAsked w link place request source source (outside net refused sink) (outside net refused sink') tally how
-  asked_so place (asked.Serve o names) source sink sink' how net refused tally ends = absurd ends
+  asked_so place (asked.Serve o names file) source sink sink' how net refused tally ends = absurd ends
   asked_so place (asked.Tell text) source sink sink' how net refused tally ends = (refl, ((refl, refl), ends))
   asked_so place asked.Usage source sink sink' how net refused tally ends = (refl, ((refl, refl), ends))
   asked_so place asked.NoMemory source sink sink' how net refused tally ends = (refl, (((refl, refl), ends.0), ends.1))
@@ -58,14 +60,14 @@ module _ {L : Type 0} (w : LinkWords L) (link : L) where
   read_so place o input.Failed sink sink' how net refused tally ends = (((refl, refl), ends.0), ends.1)
   read_so place o input.NoMemory sink sink' how net refused tally ends = (((refl, refl), ends.0), ends.1)
 
-  pub at_bench : (words : List (List ℕ)) (place : Place) (rest : List (List ℕ)) (o : Options) (names : List (List ℕ × List ℕ)) (source source' : End) (sink sink' : End) (how : ServerStatus)
-      → IsPlace words place rest → ServerAnswers rest (asked.Serve o names) → EndsAtBench source source' sink sink' how
+  pub at_bench : (words : List (List ℕ)) (place : Place) (rest : List (List ℕ)) (o : Options) (names : List (List ℕ × List ℕ)) (file : Option (String Global)) (source source' : End) (sink sink' : End) (how : ServerStatus)
+      → IsPlace words place rest → ServerAnswers rest (asked.Serve o names file) → EndsAtBench source source' sink sink' how
       → Early (RelayEnds w link words source source') sink sink' how
-  at_bench words place rest o names source source' sink sink' how is asks ends net refused tally = inl (record {
+  at_bench words place rest o names file source source' sink sink' how is asks ends net refused tally = inl (record {
     place = place;
     rest = rest;
     is = is;
-    request = asked.Serve o names;
+    request = asked.Serve o names file;
     asks = asks;
     ends = record { given = ends.given; reads = ends.reads; ends = read_so place o ends.given sink sink' how net refused tally ends.ends };
   })
@@ -88,14 +90,14 @@ module _ {L : Type 0} (w : LinkWords L) (link : L) where
   opened_so o (cause.NoRemoteOff e) sink sink' how net refused tally ends = ((refl, refl), ends)
   opened_so o (cause.NoAddress e) sink sink' how net refused tally ends = ((refl, refl), ends)
 
-  pub at_opening : (words : List (List ℕ)) (place : Place) (rest : List (List ℕ)) (o : Options) (names : List (List ℕ × List ℕ)) (source source' : End) (sink sink' : End) (how : ServerStatus)
-      → IsPlace words place rest → ServerAnswers rest (asked.Serve o names) → HasNoBench source source' → EndsAtOpening w link place o.patience sink sink' how
+  pub at_opening : (words : List (List ℕ)) (place : Place) (rest : List (List ℕ)) (o : Options) (names : List (List ℕ × List ℕ)) (file : Option (String Global)) (source source' : End) (sink sink' : End) (how : ServerStatus)
+      → IsPlace words place rest → ServerAnswers rest (asked.Serve o names file) → HasNoBench source source' → EndsAtOpening w link place o.patience sink sink' how
       → Early (RelayEnds w link words source source') sink sink' how
-  at_opening words place rest o names source source' sink sink' how is asks bench ends net refused tally = inl (record {
+  at_opening words place rest o names file source source' sink sink' how is asks bench ends net refused tally = inl (record {
     place = place;
     rest = rest;
     is = is;
-    request = asked.Serve o names;
+    request = asked.Serve o names file;
     asks = asks;
     ends = record {
       given = bench.given;
@@ -114,7 +116,7 @@ module _ {L : Type 0} (w : LinkWords L) (link : L) where
     place = r.place;
     rest = r.rest;
     is = r.is;
-    request = asked.Serve o names;
+    request = asked.Serve o names r.file;
     asks = r.asks;
     ends = record {
       given = r.bench.given;

@@ -1,6 +1,7 @@
 -- A server whose bus is behind another box, before it comes to its ports: each step is done and nothing was written, or the server ends
 -- there by its sink alone.
-use Rattle.std.specs.Prelude.{◌≡◌, ℕ, List, [], ◌∷◌, Ok, string_bytes}
+use Rattle.std.specs.Prelude.{◌≡◌, ℕ, List, [], ◌∷◌, Ok, Option, String, string_bytes}
+use Rattle.std.specs.declared.alloc.Global.{Global}
 use Rattle.vx_text.specs.Ends.{End}
 use Rattle.vx_text.specs.Reading.{IsInput}
 use Rattle.vx_text.specs.declared.input.Input.{Input}
@@ -34,7 +35,7 @@ EndsSilent why sink sink' how = (sink' ≡ sink) × (how ≡ why)
 
 -- by what they ask, where they don't ask to serve
 abbrev pub EndsUnserved : Asked → End → End → ServerStatus → Type 0
-EndsUnserved (asked.Serve o names) sink sink' how = ⊥
+EndsUnserved (asked.Serve o names file) sink sink' how = ⊥
 EndsUnserved (asked.Tell text) sink sink' how = PutsLast status.Told (string_bytes text) sink sink' how
 EndsUnserved asked.Usage sink sink' how = PutsLast status.Usage relay_usage_line sink sink' how
 EndsUnserved asked.NoMemory sink sink' how = EndsSilent status.NoMemory sink sink' how
@@ -85,11 +86,12 @@ pub record EndsAtOpening {L : Type 0} (w : LinkWords L) (link : L) (place : Plac
 
 -- ---- all steps
 
--- each was done, and the server has these options, these names and its bus
+-- each was done, and the server has these options, these names, some file of rules or none, and its bus
 pub record IsRelayReady {L : Type 0} (w : LinkWords L) (link : L) (words : List (List ℕ)) (source source' : End) (o : Options) (names : List (List ℕ × List ℕ)) : Type 0 where
   pub place : Place
   pub rest : List (List ℕ)
   pub is : IsPlace words place rest
-  pub asks : ServerAnswers rest (asked.Serve o names)
+  pub file : Option (String Global)
+  pub asks : ServerAnswers rest (asked.Serve o names file)
   pub bench : HasNoBench source source'
   pub opens : Opens w link place o.patience (Ok tt)

@@ -64,7 +64,7 @@ pub record EndsRelayOptioned {L : Type 0} (w : LinkWords L) (link : L) (place : 
 
 -- By what the words behind the box ask. Where they don't ask to serve, the bench isn't read, and the box isn't asked.
 abbrev pub EndsRelayAsked : {L : Type 0} → LinkWords L → L → Place → Asked → End → End → ServerIo → ServerIo → (tally : ℕ) → ServerStatus → Type 0
-EndsRelayAsked w link place (asked.Serve o names) source source' before after tally how = EndsRelayOptioned w link place o source source' before after tally how
+EndsRelayAsked w link place (asked.Serve o names file) source source' before after tally how = EndsRelayOptioned w link place o source source' before after tally how
 EndsRelayAsked w link place (asked.Tell text) source source' before after tally how = (source' ≡ source) × ServerTells status.Told (string_bytes text) before after how
 EndsRelayAsked w link place asked.Usage source source' before after tally how = (source' ≡ source) × ServerTells status.Usage relay_usage_line before after how
 EndsRelayAsked w link place asked.NoMemory source source' before after tally how = (source' ≡ source) × Stops status.NoMemory before after how

@@ -1,5 +1,6 @@
 //! All that a server does whose bus is behind another box.
-ghost use Rattle.std.specs.Prelude.{◌≡◌, ◌≤◌, length, map, string_bytes, IfOk, IfErr, OnOk};
+ghost use Rattle.std.specs.Prelude.{◌≡◌, ◌≤◌, length, map, string_bytes, IfOk, IfErr, OnOk, Option, String};
+ghost use Rattle.std.specs.declared.alloc.Global.{Global};
 ghost use Rattle.vx_calls.specs.declared.limits.TheConstants.{DEVICE_MAX};
 ghost use Rattle.vx_488.specs.Means.{first_means};
 ghost use Rattle.vx_text.specs.Ends.{source_shown, sink_shown};
@@ -26,7 +27,7 @@ use vx_serve::{Ended, Host, ServeBus, serve_bus};
 use vx_session::{Tally, Tools};
 use vx_setup::BenchStop;
 use vx_startup::{
-    Asked, BENCH_MAX, Logs, Options, Placed, ServerStatus, end_bench, put_last, read_words,
+    Asked, BENCH_MAX, Logs, Options, Placed, Rules, ServerStatus, end_bench, put_last, read_words,
 };
 use vx_text::{Input, read_all};
 use vx_upstream::UpstreamBus;
@@ -40,13 +41,13 @@ fn options_of<K: Sink>(
     words: &[String],
     sink: &mut K,
 ) -> Result<(Options, NameTable), ServerStatus>
-    ensures set { IfOk result (λ r. ServerAnswers (map string_bytes words.now) (Serve r.0 r.1)) }
+    ensures set { IfOk result (λ r. (file : Option (String Global)) × ServerAnswers (map string_bytes words.now) (Serve r.0 r.1 file)) }
     ensures silent { IfOk result (λ r. IsQuiet (sink_shown K.Sink sink.old) (sink_shown K.Sink sink.new)) }
     ensures early { IfErr result (λ how. EndsAtWords (map string_bytes words.now)
         (sink_shown K.Sink sink.old) (sink_shown K.Sink sink.new) how) }
 {
     match read_words(alloc, words) {
-        Asked::Serve(options, names) => Ok((options, names)),
+        Asked::Serve(options, names, _) => Ok((options, names)),
         Asked::Tell(text) => Err(put_last(sink, text.as_bytes(), ServerStatus::Told)),
         Asked::Usage => Err(put_last(sink, USAGE, ServerStatus::Usage)),
         Asked::NoMemory => Err(ServerStatus::NoMemory),
@@ -136,7 +137,7 @@ fn serve_words<
     R: Wait,
     N: Net,
     W: Spawner<ServeBus<N, X, UpstreamBus<L>>>,
-    X: Tools + Logs,
+    X: Tools + Logs + Rules,
     S: Source,
     K: Sink,
     L: Reach + Drop,
@@ -185,7 +186,7 @@ pub fn relay_run<
     R: Wait,
     N: Net,
     W: Spawner<ServeBus<N, X, UpstreamBus<L>>>,
-    X: Tools + Logs,
+    X: Tools + Logs + Rules,
     S: Source,
     K: Sink,
     L: Reach + Drop,

@@ -4,5 +4,5 @@
 mod server;
 
 pub use server::{Ended, Host, Serve, serve_bus, serve_run};
-pub use vx_startup::{BENCH_MAX, Logs, Place, Placed, ServerStatus};
+pub use vx_startup::{BENCH_MAX, Logs, Place, Placed, Rules, ServerStatus};
 pub use vx_workers::ServeBus;

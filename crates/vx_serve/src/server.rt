@@ -19,11 +19,13 @@ use vx_policy::NameTable;
 use vx_rack::Spare;
 use vx_session::{Tally, Tools};
 use vx_sim::SimBus;
-use vx_startup::{Logs, Options, Placed, ServerStatus, announce, open_ports, prepare, tell_served};
+use vx_startup::{
+    Logs, Options, Placed, Rules, ServerStatus, announce, open_ports, prepare, tell_served,
+};
 use vx_stream::CountingLink;
 use vx_workers::{
-    Acceptor, Attend, Duty, GateAccess, Job, LinkAccess, Peer, ServeBus, Served, Unstarted,
-    accept_links, start_all,
+    Acceptor, Attend, Duty, GateAccess, Job, LabBook, LinkAccess, Peer, ServeBus, Served,
+    Unstarted, accept_links, start_all,
 };
 
 /// The work of one worker of a server over the simulated bus.
@@ -174,7 +176,7 @@ where
 fn serve_gate<
     R: Wait,
     N: Net,
-    X: Tools + Logs,
+    X: Tools + Logs + Rules,
     B: Bus + Drop,
     J: Job<GateAccess<B>, Duty<N, X>>,
     W: Spawner<J>,
@@ -199,20 +201,23 @@ where
         result.tally result.status }
     ensures same { (host.new.net.ghost_name ≡ host.old.net.ghost_name) × (host.new.spawner.ghost_name ≡ host.old.spawner.ghost_name) × (host.new.sink.ghost_name ≡ host.old.sink.ghost_name) }
 {
-    match GateAccess::start(host.alloc, bus, options.abort, names) {
+    let policy = host.tools.rules();
+    let book = LabBook { names, policy };
+    match GateAccess::start(host.alloc, bus, options.abort, book) {
         Ok(access) => serve_open::<R, N, X, GateAccess<B>, J, W, K>(host, options, port, access),
         Err(_) => Ended::early(ServerStatus::NoMemory),
     }
 }
 
 /// What a server does that has its options, the names that its clients know devices by, and its bus, of which nobody asked anything
-/// yet: it opens the core port and binds the abort port, starts its workers, each over a pass of the one gate round a gateway over the
-/// bus, and then takes core links and hands them to the workers. It ends as [`serve_run`] says of the statuses 0 and 3 to 6.
+/// yet. Its tools have the rules that calls are judged by, where there are some. It opens the core port and binds the abort port, starts
+/// its workers, each over a pass of the one gate round a gateway over the bus, and then takes core links and hands them to the workers.
+/// It ends as [`serve_run`] says of the statuses 0 and 3 to 6.
 pub fn serve_bus<
     R: Wait,
     N: Net,
     W: Spawner<ServeBus<N, X, B>>,
-    X: Tools + Logs,
+    X: Tools + Logs + Rules,
     K: Sink,
     B: Bus + Drop,
 >(
@@ -246,7 +251,7 @@ fn serve_words<
     R: Wait,
     N: Net,
     W: Spawner<Serve<N, X, I>>,
-    X: Tools + Logs,
+    X: Tools + Logs + Rules,
     S: Source,
     K: Sink,
     I: Instrument,
@@ -297,7 +302,7 @@ pub fn serve_run<
     R: Wait,
     N: Net,
     W: Spawner<Serve<N, X, I>>,
-    X: Tools + Logs,
+    X: Tools + Logs + Rules,
     S: Source,
     K: Sink,
     I: Instrument,

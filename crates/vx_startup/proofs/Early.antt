@@ -1,5 +1,7 @@
 -- A server that ends before it comes to its ports ends as its words and its bench say.
-use Rattle.std.proofs.Common.{ℕ, List}
+use Rattle.std.proofs.Common.{ℕ, List, Option}
+use Rattle.std.specs.Prelude.{String}
+use Rattle.std.specs.declared.alloc.Global.{Global}
 use Rattle.vx_text.specs.Ends.{End}
 use Rattle.vx_text.specs.Reading.{IsInput}
 use Rattle.vx_text.specs.declared.input.Input.{Input}
@@ -13,10 +15,10 @@ use Rattle.vx_startup.specs.Outcome.{ServerEnds, EndsOptioned, EndsRead}
 use Rattle.vx_startup.specs.Preparing.{Early}
 
 -- behind the words
-pub behind_words : (words : List (List ℕ)) (rack : List SpareShown) (source source' : End) (o : Options) (names : List (List ℕ × List ℕ)) (sink sink' : End) (how : ServerStatus)
-    → ServerAnswers words (asked.Serve o names) → Early (EndsOptioned o rack source source') sink sink' how → Early (ServerEnds words rack source source') sink sink' how
-behind_words words rack source source' o names sink sink' how asks early net refused tally =
-    record { request = asked.Serve o names; asks = asks; ends = early net refused tally }
+pub behind_words : (words : List (List ℕ)) (rack : List SpareShown) (source source' : End) (o : Options) (names : List (List ℕ × List ℕ)) (file : Option (String Global)) (sink sink' : End) (how : ServerStatus)
+    → ServerAnswers words (asked.Serve o names file) → Early (EndsOptioned o rack source source') sink sink' how → Early (ServerEnds words rack source source') sink sink' how
+behind_words words rack source source' o names file sink sink' how asks early net refused tally =
+    record { request = asked.Serve o names file; asks = asks; ends = early net refused tally }
 
 -- and behind the reading of the bench
 pub behind_reading : (o : Options) (rack : List SpareShown) (source source' : End) (given : Input) (sink sink' : End) (how : ServerStatus)

@@ -84,7 +84,7 @@ place [] name = 0
 place (r ∷ rest) name = cond (bytes_eq r.id name) 0 (suc (place rest name))
 
 -- the name of the option at a place is first found there
-at_place : (k : ℕ) (x : Rule) → k < 13 → place options (get_or options k x).id ≡ k
+at_place : (k : ℕ) (x : Rule) → k < 14 → place options (get_or options k x).id ≡ k
 unfolding place
 at_place zero x lt = refl
 at_place (suc zero) x lt = refl
@@ -99,10 +99,11 @@ at_place (suc (suc (suc (suc (suc (suc (suc (suc (suc zero))))))))) x lt = refl
 at_place (suc (suc (suc (suc (suc (suc (suc (suc (suc (suc zero)))))))))) x lt = refl
 at_place (suc (suc (suc (suc (suc (suc (suc (suc (suc (suc (suc zero))))))))))) x lt = refl
 at_place (suc (suc (suc (suc (suc (suc (suc (suc (suc (suc (suc (suc zero)))))))))))) x lt = refl
-at_place (suc (suc (suc (suc (suc (suc (suc (suc (suc (suc (suc (suc (suc k))))))))))))) x lt = absurd (omega arith)
+at_place (suc (suc (suc (suc (suc (suc (suc (suc (suc (suc (suc (suc (suc zero))))))))))))) x lt = refl
+at_place (suc (suc (suc (suc (suc (suc (suc (suc (suc (suc (suc (suc (suc (suc k)))))))))))))) x lt = absurd (omega arith)
 
 -- no two options have one name
-distinct : (j k : ℕ) (x y : Rule) → j < 13 → k < 13
+distinct : (j k : ℕ) (x y : Rule) → j < 14 → k < 14
     → bytes_eq (get_or options j x).id (get_or options k y).id ≡ true → j ≡ k
 distinct j k x y low high e = sym (at_place j x low) ∙ ap (place options) ((bytes_eq-Decides _ _).0 e) ∙ at_place k y high
 
@@ -180,10 +181,10 @@ module _ (old : Command) (same : app_of old ≡ vxgate) (m : ArgMatches) (p : Is
   rules_are : map rule_of (args_of old) ≡ options
   rules_are = ap (λ (a : App). a.top.rules) same
 
-  count : length (args_of old) ≡ 13
+  count : length (args_of old) ≡ 14
   count = sym (length-map (args_of old) rule_of) ∙ ap length rules_are
 
-  rule_at : (k : ℕ) (d : Arg) → k < 13 → rule_of (get_or (args_of old) k d) ≡ get_or options k (rule_of d)
+  rule_at : (k : ℕ) (d : Arg) → k < 14 → rule_of (get_or (args_of old) k d) ≡ get_or options k (rule_of d)
   rule_at k d lt =
       sym (get_or-map rule_of (args_of old) k d (rule_of d) (rw count lt)) ∙ ap (λ l. get_or l k (rule_of d)) rules_are
 
@@ -198,10 +199,10 @@ module _ (old : Command) (same : app_of old ≡ vxgate) (m : ArgMatches) (p : Is
   )
 
   -- no two arguments have one id
-  only : (k : ℕ) (d : Arg) → k < 13 → (j : ℕ) (e : Arg) → j < length (args_of old)
+  only : (k : ℕ) (d : Arg) → k < 14 → (j : ℕ) (e : Arg) → j < length (args_of old)
       → bytes_eq (get_or (args_of old) j e).id.now (get_or (args_of old) k d).id.now ≡ true → j ≡ k
   only k d lt j e low ids =
-      let below : j < 13 = rw count at low in
+      let below : j < 14 = rw count at low in
       distinct j k (rule_of e) (rule_of d) below lt
       (rw (← ap (λ (r : Rule). r.id) (rule_at j e below), ← ap (λ (r : Rule). r.id) (rule_at k d lt)) ids)
 
@@ -209,7 +210,7 @@ module _ (old : Command) (same : app_of old ≡ vxgate) (m : ArgMatches) (p : Is
   parsed = p.parsed (p.from.globals ∙ fields.globals)
 
   -- what the parse left of the option at place k, whose values this parser takes
-  module _ (k : ℕ) (d : Arg) (name : Text) (q : ValueParser) (lt : k < 13) (id : (get_or (args_of old) k d).id.now ≡ name)
+  module _ (k : ℕ) (d : Arg) (name : Text) (q : ValueParser) (lt : k < 14) (id : (get_or (args_of old) k d).id.now ≡ name)
       (parser : (get_or (args_of old) k d).value_parser ≡ Some q) (own : IsOwn name) where
     in_args : k < length (args_of old)
     in_args = rw count lt
@@ -257,7 +258,7 @@ module _ (old : Command) (same : app_of old ≡ vxgate) (m : ArgMatches) (p : Is
     ]
 
   -- what it left of the flag at place k
-  module _ (k : ℕ) (d : Arg) (name : Text) (lt : k < 13) (is : get_or options k (rule_of d) ≡ flag name) (own : IsOwn name) where
+  module _ (k : ℕ) (d : Arg) (name : Text) (lt : k < 14) (is : get_or options k (rule_of d) ≡ flag name) (own : IsOwn name) where
     flag_rule : rule_of (get_or (args_of old) k d) ≡ flag name
     flag_rule = rule_at k d lt ∙ is
 
@@ -283,7 +284,7 @@ module _ (old : Command) (same : app_of old ≡ vxgate) (m : ArgMatches) (p : Is
         go (Some x) e = at x e (entry_by_id (EntryPasses p.built) (found_of m).entries.items name x parsed.values e)
 
   -- what it left of the option of a number at place k
-  module _ (k : ℕ) (d : Arg) (name usual : Text) (least most : ℕ) (lt : k < 13)
+  module _ (k : ℕ) (d : Arg) (name usual : Text) (least most : ℕ) (lt : k < 14)
       (is : get_or options k (rule_of d) ≡ number_option name usual least most) (own : IsOwn name) where
     it : IsNumberOption name least most (get_or (args_of old) k d)
     it = option_facts name usual least most (get_or (args_of old) k d) (rule_at k d lt ∙ is)

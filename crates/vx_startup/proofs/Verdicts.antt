@@ -1,6 +1,6 @@
 -- What an answer says of the words, from what `clap` says of them.
 use Rattle.std.proofs.Common.{◌≡◌, ◌∙◌, ◌⊎◌, codes, ℕ, Bool, true, false, refl, sym, ap, subst, List, [], ◌∷◌, Option, Some, None, Result, Ok, inl, inr}
-use Rattle.std.specs.Prelude.{option_map, ◌||◌}
+use Rattle.std.specs.Prelude.{option_map, string_bytes, ◌||◌}
 use Rattle.std.specs.Option.{option_map_or}
 use Rattle.std.specs.Str.{bytes_eq}
 use Rattle.std.specs.Str.Parse.{ParsesUnsigned}
@@ -16,7 +16,7 @@ use Rattle.clap.specs.declared.parser.matches.Found.{Found}
 use Rattle.clap.proofs.WalkLemmas.{first_value-rows}
 use Rattle.vx_policy.specs.Names.{names_with_all}
 use Rattle.vx_startup.specs.Form.{vxgate}
-use Rattle.vx_startup.specs.Meant.{ServerAnswers, Sets, given, is_set, name_texts, names_given, number_of, refused, rows, taken, told, verdict, verdict_of}
+use Rattle.vx_startup.specs.Meant.{ServerAnswers, Sets, given, is_set, name_texts, names_given, number_of, refused, rows, rules_file, rules_given, taken, told, verdict, verdict_of}
 use Rattle.vx_startup.specs.Parts.{HasFlag, HasNumber, Refuses, Serves}
 use Rattle.vx_startup.specs.declared.words.Options.{Options}
 use Rattle.vx_startup.specs.declared.words.Asked.{Asked}
@@ -45,11 +45,20 @@ names_found : (words : List Text) (found : List Row) (r : Option (List (Text × 
 unfolding rows
 names_found words found r same given = subst (λ (rs : List Row). names_with_all [] (name_texts rs) ≡ r) same given
 
+-- and so is the file of rules
+file_found : (words : List Text) (found : List Row) (r : Option Text) → found ≡ matches_of vxgate words → rules_file found ≡ r → rules_given words ≡ r
+unfolding rows
+file_found words found r same given = subst (λ (rs : List Row). rules_file rs ≡ r) same given
+
 -- what a parse found is answered
 pub served : (words : List Text) (found : List Row) (a : Asked) → found ≡ matches_of vxgate words → fault_of vxgate words ≡ []
     → Serves found a → ServerAnswers words a
-served words found (asked.Serve o names) same none s =
-    ((all_taken words none, found_rows words found o same s.0), s.1, names_found words found (Some names) same s.2)
+served words found (asked.Serve o names file) same none s = (
+  (all_taken words none, found_rows words found o same s.0),
+  s.1,
+  names_found words found (Some names) same s.2,
+  file_found words found (option_map string_bytes file) same s.3,
+)
 served words found (asked.Tell text) same none s = absurd s
 served words found asked.Usage same none s = inr (all_taken words none, names_found words found None same s)
 served words found asked.NoMemory same none s = tt
@@ -61,7 +70,7 @@ by_kind words k among = ap verdict_of (only_kind words k among)
 -- an error of the kind that the words give, or for want of memory, is answered
 pub answered : (words : List Text) (k : ErrorKind) (a : Asked) → Refuses k a → (k ≡ kind.OutOfMemory) ⊎ IsAmong k (fault_of vxgate words)
     → ServerAnswers words a
-answered words k (asked.Serve o names) none why = absurd none
+answered words k (asked.Serve o names file) none why = absurd none
 answered words k (asked.Tell text) asks (inl memory) =
     let bad : refused ≡ told = ap (λ (x : ErrorKind). verdict_of (x ∷ [])) (sym memory) ∙ asks in
     absurd cc

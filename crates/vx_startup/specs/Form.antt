@@ -1,6 +1,6 @@
 -- To be believed.
--- The command `vxgate` as `clap` sees it: ten options, each with one number for its value, two flags, and an option that may be given
--- again and again, each time with one text.
+-- The command `vxgate` as `clap` sees it: ten options, each with one number for its value, two flags, an option that may be given
+-- again and again, each time with one text, and an option with one text.
 use Rattle.std.specs.Prelude.{ℕ, List, [], ◌∷◌, ◌++◌, Some, true, codes}
 use Rattle.clap.specs.Walk.{Rule, Text}
 use Rattle.clap.specs.Simple.{App, new_app, new_rule, on_top, with_rule}
@@ -33,6 +33,14 @@ text_option name = record (new_rule name) {
   value_names = 1;
 }
 
+-- the option `--NAME FILE`, which may be given once, and whose value is any text
+abbrev pub file_option : Text → Rule
+file_option name = record (new_rule name) {
+  long = Some name;
+  action = Some Set;
+  value_names = 1;
+}
+
 -- two ports, milliseconds, threads, and a number of connections
 abbrev pub serving : List Rule
 serving =
@@ -44,7 +52,7 @@ serving =
     ∷ []
 
 -- seconds that peers are waited for, up to a day, or 0 for no end; milliseconds that a box is waited for; the flags of the log and of
--- the port mapper; and names for devices
+-- the port mapper; names for devices; and the file of access rules
 abbrev pub timing : List Rule
 timing =
     number_option (codes "keepalive") (codes "120") 0 86400
@@ -55,6 +63,7 @@ timing =
     ∷ flag (codes "log")
     ∷ flag (codes "map")
     ∷ text_option (codes "name")
+    ∷ file_option (codes "rules")
     ∷ []
 
 abbrev pub options : List Rule

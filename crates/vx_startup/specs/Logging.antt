@@ -1,6 +1,7 @@
 -- The lines of a server's log.
-use Rattle.std.specs.Prelude.{◌≡◌, ℕ, ◌/◌, ◌%◌, ◌^◌, max, List, ◌++◌, codes, decimal}
+use Rattle.std.specs.Prelude.{◌≡◌, ℕ, ◌/◌, ◌%◌, ◌^◌, max, List, ◌++◌, Some, codes, decimal}
 use Rattle.vx_io_traits.specs.declared.clocks.Clock.{Ghosts as ClockTold}
+use Rattle.vx_policy.specs.Grammar.{proc_text}
 use Rattle.vx_startup.specs.declared.logging.Channel.{Channel}
 use Rattle.vx_startup.specs.declared.logging.Channel.TheVariants as channel
 use Rattle.vx_startup.specs.declared.logging.Reason.{Reason}
@@ -29,6 +30,7 @@ news_text news.Came = codes " came"
 news_text (news.Ended r calls) = codes " ended: " ++ reason r ++ codes ", " ++ decimal calls ++ codes " calls"
 news_text news.Full = codes " refused: 64 are connected"
 news_text news.NoMemory = codes " refused: no memory"
+news_text (news.Denied rule p) = codes " denied: " ++ proc_text (Some p) ++ codes ", rule " ++ decimal rule
 
 -- an IPv4 address: its four parts, the high byte first
 abbrev pub address_text : ℕ → List ℕ

@@ -1,6 +1,6 @@
 -- To be believed.
 -- What words mean to the server.
-use Rattle.std.specs.Prelude.{◌≡◌, ◌⊎◌, ◌≤◌, ℕ, ⊤, Bool, false, List, [], ◌∷◌, Option, Some, None, option_map, unwrap_or, codes}
+use Rattle.std.specs.Prelude.{◌≡◌, ◌⊎◌, ◌≤◌, ℕ, ⊤, Bool, false, List, [], ◌∷◌, Option, Some, None, option_map, string_bytes, unwrap_or, codes}
 use Rattle.std.specs.Option.{option_map_or}
 use Rattle.std.specs.Str.{bytes_eq}
 use Rattle.std.specs.Str.Parse.{digits_value, without_leading_plus}
@@ -87,9 +87,18 @@ name_texts found = unwrap_or (all_of (codes "name") found) []
 abbrev pub names_given : List Text → Option (List (Text × Text))
 names_given words = names_with_all [] (name_texts (rows words))
 
+-- the text that `--rules` gives, where it is given
+abbrev pub rules_file : List Row → Option Text
+rules_file found = first_of (codes "rules") found
+
+-- the file of access rules that words name, where they name one
+abbrev pub rules_given : List Text → Option Text
+rules_given words = rules_file (rows words)
+
 -- the one answer that the words have, or want of memory
 abbrev pub ServerAnswers : List Text → Asked → Type 0
-ServerAnswers words (asked.Serve o names) = IsSetBy words o × IsServerInRange o × (names_given words ≡ Some names)
+ServerAnswers words (asked.Serve o names file) =
+    IsSetBy words o × IsServerInRange o × (names_given words ≡ Some names) × (rules_given words ≡ option_map string_bytes file)
 ServerAnswers words (asked.Tell text) = verdict words ≡ told
 ServerAnswers words asked.Usage = (verdict words ≡ refused) ⊎ ((verdict words ≡ taken) × (names_given words ≡ None))
 ServerAnswers words asked.NoMemory = ⊤

@@ -97,10 +97,10 @@ pub record EndsOptioned (o : Options) (rack : List SpareShown) (source source' :
   pub reads : IsInput BENCH_MAX source source' given
   pub ends : EndsRead given rack o before after tally how
 
--- By what the words ask: to serve with options and names; for a text; nothing, since they are refused; or memory ran out. Where they
--- don't ask to serve, the bench isn't read.
+-- By what the words ask: to serve with options, names and a file of rules, if any; for a text; nothing, since they are refused; or memory
+-- ran out. Where they don't ask to serve, the bench isn't read.
 abbrev pub EndsAsked : Asked → List SpareShown → End → End → ServerIo → ServerIo → ℕ → ServerStatus → Type 0
-EndsAsked (asked.Serve o names) rack source source' before after tally how = EndsOptioned o rack source source' before after tally how
+EndsAsked (asked.Serve o names file) rack source source' before after tally how = EndsOptioned o rack source source' before after tally how
 EndsAsked (asked.Tell text) rack source source' before after tally how = (source' ≡ source) × ServerTells status.Told (string_bytes text) before after how
 EndsAsked asked.Usage rack source source' before after tally how = (source' ≡ source) × ServerTells status.Usage server_usage_line before after how
 EndsAsked asked.NoMemory rack source source' before after tally how = (source' ≡ source) × Stops status.NoMemory before after how
@@ -118,7 +118,7 @@ ServerEndsSo words rack source source' before after tally number =
 
 -- What a server that ends with 0 has written, by what its words ask: to serve, both its lines; for the help or the version, that text.
 abbrev pub DoneFor : Asked → End → End → ℕ → Type 0
-DoneFor (asked.Serve o names) before after tally = Appends before.bytes after.bytes (first_line o ++ server_served_line tally)
+DoneFor (asked.Serve o names file) before after tally = Appends before.bytes after.bytes (first_line o ++ server_served_line tally)
 DoneFor (asked.Tell text) before after tally = Appends before.bytes after.bytes (string_bytes text)
 DoneFor _ before after tally = ⊥
 

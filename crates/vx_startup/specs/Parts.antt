@@ -1,5 +1,5 @@
 -- What a parse leaves of the options, what is answered where words are taken, and what an error is answered with.
-use Rattle.std.specs.Prelude.{◌≡◌, ◌≢◌, ◌⊎◌, ℕ, ⊤, false, List, [], ◌∷◌, Some, None, codes}
+use Rattle.std.specs.Prelude.{◌≡◌, ◌≢◌, ◌⊎◌, ℕ, ⊤, false, List, [], ◌∷◌, Some, None, option_map, string_bytes, codes}
 use Rattle.clap.specs.Values.{Accepts, IsUnsignedIn}
 use Rattle.clap.specs.Matches.{first_value, one_text}
 use Rattle.clap.specs.Walk.{Row, Text}
@@ -8,7 +8,7 @@ use Rattle.clap.specs.declared.error.kind.ErrorKind.TheVariants as kind
 use Rattle.clap.specs.declared.builder.value_parser.ValueParser.TheVariants.{Bool}
 use Rattle.clap.specs.declared.parser.matches.Found.{Found}
 use Rattle.vx_policy.specs.Names.{names_with_all}
-use Rattle.vx_startup.specs.Meant.{IsServerInRange, Sets, name_texts, refused, told, verdict_of}
+use Rattle.vx_startup.specs.Meant.{IsServerInRange, Sets, name_texts, refused, rules_file, told, verdict_of}
 use Rattle.vx_startup.specs.declared.words.Asked.{Asked}
 use Rattle.vx_startup.specs.declared.words.Asked.TheVariants as asked
 
@@ -41,14 +41,15 @@ pub record IsGiven (found : Found) : Type 0 where
 
 -- the answer to what a parse found, or want of memory
 abbrev pub Serves : List Row → Asked → Type 0
-Serves found (asked.Serve o names) = Sets found o × IsServerInRange o × (names_with_all [] (name_texts found) ≡ Some names)
+Serves found (asked.Serve o names file) =
+    Sets found o × IsServerInRange o × (names_with_all [] (name_texts found) ≡ Some names) × (rules_file found ≡ option_map string_bytes file)
 Serves found (asked.Tell text) = ⊥
 Serves found asked.Usage = names_with_all [] (name_texts found) ≡ None
 Serves found asked.NoMemory = ⊤
 
 -- the answer to an error of this kind, or want of memory
 abbrev pub Refuses : ErrorKind → Asked → Type 0
-Refuses k (asked.Serve o names) = ⊥
+Refuses k (asked.Serve o names file) = ⊥
 Refuses k (asked.Tell text) = verdict_of (k ∷ []) ≡ told
 Refuses k asked.Usage = (verdict_of (k ∷ []) ≡ refused) × (k ≢ kind.OutOfMemory)
 Refuses k asked.NoMemory = ⊤

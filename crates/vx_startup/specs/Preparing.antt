@@ -1,5 +1,6 @@
 -- A server before it comes to its ports: it is ready to go on with its options, its names and its bus, or it ends.
-use Rattle.std.specs.Prelude.{◌≡◌, ℕ, List, Ok}
+use Rattle.std.specs.Prelude.{◌≡◌, ℕ, List, Ok, Option, String}
+use Rattle.std.specs.declared.alloc.Global.{Global}
 use Rattle.vx_text.specs.Ends.{End}
 use Rattle.vx_text.specs.Reading.{IsInput}
 use Rattle.vx_text.specs.declared.input.Input.{Input}
@@ -23,9 +24,11 @@ abbrev pub IsBenchRead : Input → List SpareShown → Type 0
 IsBenchRead (input.Whole text) rack = IsBench text.items rack
 IsBenchRead _ rack = ⊥
 
--- The words ask to serve with these options and names, and the source gave a bench of which each line is set up.
+-- The words ask to serve with these options and names, and with some file of rules or none, and the source gave a bench of which each line
+-- is set up.
 pub record IsServerReady (words : List (List ℕ)) (rack : List SpareShown) (source source' : End) (o : Options) (names : List (List ℕ × List ℕ)) : Type 0 where
-  pub asks : ServerAnswers words (asked.Serve o names)
+  pub file : Option (String Global)
+  pub asks : ServerAnswers words (asked.Serve o names file)
   pub given : Input
   pub reads : IsInput BENCH_MAX source source' given
   pub bench : IsBenchRead given rack

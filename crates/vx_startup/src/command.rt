@@ -2,7 +2,7 @@
 
 ghost use Rattle.std.specs.Prelude.{◌≡◌, IfOk, false};
 ghost use Rattle.clap.specs.Words.{app_of, rule_of};
-ghost use Rattle.vx_startup.specs.Form.{flag, number_option, serving, text_option, timing, vxgate, with_rules};
+ghost use Rattle.vx_startup.specs.Form.{file_option, flag, number_option, serving, text_option, timing, vxgate, with_rules};
 
 use clap::builder::ValueParser;
 use clap::{Arg, ArgAction, Command};
@@ -85,6 +85,18 @@ fn text_option<'a>(alloc: Global, name: &'a str, value: &'a str, help: &'a str) 
         .help(help)
 }
 
+/// The option `--NAME FILE`, which may be given once, and whose value is any text.
+fn file_option<'a>(alloc: Global, name: &'a str, help: &'a str) -> Arg<'a>
+    ensures rule { rule_of result ≡ file_option name.entry.now }
+    ensures local { result.global ≡ false }
+{
+    Arg::new(alloc, name)
+        .long(name)
+        .action(ArgAction::Set)
+        .value_name("FILE")
+        .help(help)
+}
+
 /// A command with the options of what is served: the ports, the samples, the workers and the limit.
 fn serving<'a>(alloc: Global, command: Command<'a>) -> Result<Command<'a>, AllocError>
     ensures { IfOk result (λ c. app_of c ≡ with_rules (app_of command.entry) serving) }
@@ -103,8 +115,8 @@ fn serving<'a>(alloc: Global, command: Command<'a>) -> Result<Command<'a>, Alloc
         .arg(number_option(alloc, "limit", "N", limit, "0", 0, LIMIT_MAX))
 }
 
-/// A command with the options of peers that are gone, that take nothing or say nothing, of a box, of the log, of the port mapper and of
-/// names for devices.
+/// A command with the options of peers that are gone, that take nothing or say nothing, of a box, of the log, of the port mapper, of
+/// names for devices and of access rules.
 fn timing<'a>(alloc: Global, command: Command<'a>) -> Result<Command<'a>, AllocError>
     ensures { IfOk result (λ c. app_of c ≡ with_rules (app_of command.entry) timing) }
 {
@@ -124,6 +136,7 @@ fn timing<'a>(alloc: Global, command: Command<'a>) -> Result<Command<'a>, AllocE
         "Tell the ports as a port mapper too, at port 111 over TCP and UDP, where that port can be had";
     let name =
         "Another name for a device, as inst0=gpib0,5: a client that asks for NAME is given a link to DEVICE. It may be given up to 64 times";
+    let rules = "Judge each call by the access rules of FILE";
     command
         .arg(number_option(
             alloc,
@@ -148,10 +161,11 @@ fn timing<'a>(alloc: Global, command: Command<'a>) -> Result<Command<'a>, AllocE
         .arg(number_option(alloc, "patience", "MS", patience, "10", 1, PATIENCE_MAX))?
         .arg(flag(alloc, "log", log))?
         .arg(flag(alloc, "map", map))?
-        .arg(text_option(alloc, "name", "NAME=DEVICE", name))
+        .arg(text_option(alloc, "name", "NAME=DEVICE", name))?
+        .arg(file_option(alloc, "rules", rules))
 }
 
-/// The command `vxgate`, with its ten options of a number, its two flags and its names.
+/// The command `vxgate`, with its ten options of a number, its two flags, its names and its rules.
 pub(crate) fn vxgate<'a>(alloc: Global) -> Result<Command<'a>, AllocError>
     ensures { IfOk result (λ c. app_of c ≡ vxgate) }
 {

@@ -1,10 +1,14 @@
-//! The log of a server: a line for each connection that comes, that ends, and that is refused, with the moment and the peer.
+//! The log of a server: a line for each connection that comes, that ends, and that is refused, and for each call that is denied, with
+//! the moment and the peer.
 ghost use Rattle.std.specs.Prelude.{◌≡◌, ℕ, ◌+◌, ◌≤◌, ◌++◌, length, take};
 ghost use Rattle.vx_text.specs.Ends.{sink_shown};
 ghost use Rattle.vx_text.specs.Writing.{IsPut};
+ghost use Rattle.vx_door.specs.Peering.{IsPeer};
 ghost use Rattle.vx_startup.specs.Logging.{IsTold, address_text, channel_word, log_line, news_text, place_text, reason};
 
-use vx_io_traits::{Clock, Sink};
+use vx_calls::Proc;
+use vx_io_traits::{Clock, Link, Sink};
+use vx_policy::word_of;
 use vx_text::{SinkFailed, put_all, put_number, put_text};
 
 /// Room for the longest line of a log, in bytes, where each of its numbers may have 20 digits.
@@ -47,6 +51,8 @@ pub enum News {
     Full,
     /// It was refused for want of memory.
     NoMemory,
+    /// A call of this procedure was denied, by the rule of this number; 0 where no rule allows it.
+    Denied { rule: u32, proc: Proc },
 }
 
 /// Where the peer of a connection is: its IPv4 address as a number, its first part in the high byte, and its port. Each is 0 where the
@@ -58,9 +64,10 @@ pub struct Place {
 }
 
 /// What knows where its peer is.
-pub trait Placed {
-    /// Where its peer was as it came.
-    fn place(&self) -> Place;
+pub trait Placed: Link {
+    /// Where its peer was as it came; its host is that of its peer, where the link tells its peers.
+    fn place(&self) -> Place
+        ensures { IsPeer (Self.peers self.now) result.host };
 }
 
 /// Where the lines of a log go: each worker of a server has an end of its own.
@@ -114,6 +121,19 @@ fn put_end(out: &mut [u8], at: usize, reason: Reason, calls: u64) -> usize
     put_text(out, at, b" calls")
 }
 
+/// Writes at a place that a call was denied, and answers the place behind it.
+fn put_denied(out: &mut [u8], at: usize, rule: u32, proc: Proc) -> usize
+    requires { at + 80 ≤ length out.old }
+    ensures text { take result out.new ≡ take at out.old ++ news_text (News.Denied rule proc) }
+    ensures end { result ≤ at + 80 }
+    ensures len { length out.new ≡ length out.old }
+{
+    let at = put_text(out, at, b" denied: ");
+    let at = put_text(out, at, word_of(proc));
+    let at = put_text(out, at, b", rule ");
+    put_number(out, at, u64::from(rule))
+}
+
 /// Writes at a place what is told of a connection, and answers the place behind it.
 fn put_news(out: &mut [u8], at: usize, news: News) -> usize
     requires { at + 80 ≤ length out.old }
@@ -126,6 +146,7 @@ fn put_news(out: &mut [u8], at: usize, news: News) -> usize
         News::Ended { reason, calls } => put_end(out, at, reason, calls),
         News::Full => put_text(out, at, b" refused: 64 are connected"),
         News::NoMemory => put_text(out, at, b" refused: no memory"),
+        News::Denied { rule, proc } => put_denied(out, at, rule, proc),
     }
 }
 

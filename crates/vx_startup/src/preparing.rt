@@ -1,5 +1,6 @@
 //! What a server does before it comes to its ports: it reads its words and its bench, and sets the bench up.
-ghost use Rattle.std.specs.Prelude.{◌≡◌, List, IfErr, IfOk, map, string_bytes};
+ghost use Rattle.std.specs.Prelude.{◌≡◌, List, IfErr, IfOk, Option, String, map, string_bytes};
+ghost use Rattle.std.specs.declared.alloc.Global.{Global};
 ghost use Rattle.vx_text.specs.Ends.{End, source_shown, sink_shown};
 ghost use Rattle.vx_text.specs.Reading.{IsInput};
 ghost use Rattle.vx_text.specs.declared.input.Input.TheVariants.{Whole};
@@ -34,13 +35,13 @@ fn options_of<K: Sink>(
     words: &[String],
     sink: &mut K,
 ) -> Result<(Options, NameTable), ServerStatus>
-    ensures set { IfOk result (λ r. ServerAnswers (map string_bytes words.now) (Serve r.0 r.1)) }
+    ensures set { IfOk result (λ r. (file : Option (String Global)) × ServerAnswers (map string_bytes words.now) (Serve r.0 r.1 file)) }
     ensures silent { IfOk result (λ r. IsQuiet (sink_shown K.Sink sink.old) (sink_shown K.Sink sink.new)) }
     ensures early { IfErr result (λ how. (rack : List SpareShown) (source : End) → Early (ServerEnds (map string_bytes words.now) rack source source)
         (sink_shown K.Sink sink.old) (sink_shown K.Sink sink.new) how) }
 {
     match read_words(alloc, words) {
-        Asked::Serve(options, names) => Ok((options, names)),
+        Asked::Serve(options, names, _) => Ok((options, names)),
         Asked::Tell(text) => Err(put_last(sink, text.as_bytes(), ServerStatus::Told)),
         Asked::Usage => Err(put_last(sink, b"usage: vxgate OPTIONS\n", ServerStatus::Usage)),
         Asked::NoMemory => Err(ServerStatus::NoMemory),

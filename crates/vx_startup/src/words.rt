@@ -1,16 +1,16 @@
 //! What words ask of the server.
 
-ghost use Rattle.std.specs.Prelude.{◌≡◌, ◌≢◌, [], ◌∷◌, true, Err, IfOk, None, OnErr, OnOk, Some, codes, map, string_bytes};
+ghost use Rattle.std.specs.Prelude.{◌≡◌, ◌≢◌, [], ◌∷◌, true, Err, IfOk, None, OnErr, OnOk, Some, codes, map, option_map, string_bytes};
 ghost use Rattle.clap.specs.Words.{found_of, kind_of, rows_of};
 ghost use Rattle.vx_policy.specs.Names.{names_with_all};
 ghost use Rattle.vx_policy.specs.declared.names.NameRefused.TheVariants as NameRefused;
-ghost use Rattle.vx_startup.specs.Meant.{ServerAnswers, IsServerInRange, IsSetBy, Sets, name_texts, names_given, refused, told, usual, verdict};
+ghost use Rattle.vx_startup.specs.Meant.{ServerAnswers, IsServerInRange, IsSetBy, Sets, name_texts, names_given, refused, rules_file, rules_given, told, usual, verdict};
 ghost use Rattle.vx_startup.specs.Parts.{IsGiven, Refuses, Serves};
 
 use crate::command::vxgate;
 use clap::error::ErrorKind;
 use clap::{ArgMatches, Error};
-use std::alloc::Global;
+use std::alloc::{AllocError, Global};
 use vx_policy::{NameRefused, NameTable};
 
 /// What the words set.
@@ -47,8 +47,9 @@ pub struct Options {
 /// What words ask for.
 #[derive(Drop)]
 pub enum Asked {
-    /// To serve with these options, and with these names for devices: one for each `--name`, in order.
-    Serve(Options, NameTable),
+    /// To serve with these options; with these names for devices, one for each `--name`, in order; and with the file of its access
+    /// rules, where `--rules` names one.
+    Serve(Options, NameTable, Option<String>),
     /// To print this text of `--help` or `--version` on standard output.
     Tell(String),
     /// Nothing: `clap` refuses them, or the text of a `--name` gives no name that may be added to those before it.
@@ -106,15 +107,29 @@ fn names_of(alloc: Global, matches: &ArgMatches<'_>) -> Result<NameTable, NameRe
     Ok(names)
 }
 
+/// The file of access rules that words name, where they name one.
+fn file_of(alloc: Global, matches: &ArgMatches<'_>) -> Result<Option<String>, AllocError>
+    ensures { IfOk result (λ file. rules_file (rows_of (found_of matches.now)) ≡ option_map string_bytes file) }
+{
+    match matches.get_str("rules") {
+        Some(file) => Ok(Some(String::from_str(alloc, file)?)),
+        None => Ok(None),
+    }
+}
+
 /// What is asked for where `clap` gives matches.
 fn served(alloc: Global, matches: &ArgMatches<'_>) -> Asked
     requires { IsGiven (found_of matches.now) }
     ensures { Serves (rows_of (found_of matches.now)) result }
 {
-    match names_of(alloc, matches) {
-        Ok(names) => Asked::Serve(options_of(matches), names),
-        Err(NameRefused::NoMemory) => Asked::NoMemory,
-        Err(_) => Asked::Usage,
+    let names = match names_of(alloc, matches) {
+        Ok(names) => names,
+        Err(NameRefused::NoMemory) => return Asked::NoMemory,
+        Err(_) => return Asked::Usage,
+    };
+    match file_of(alloc, matches) {
+        Ok(file) => Asked::Serve(options_of(matches), names, file),
+        Err(_) => Asked::NoMemory,
     }
 }
 
@@ -156,6 +171,8 @@ pub fn words_law()
     ensures names { names_given (codes "--name" ∷ codes "inst0=gpib0,5" ∷ codes "--name=x=y=z" ∷ [])
         ≡ Some ((codes "inst0", codes "gpib0,5") ∷ (codes "x", codes "y=z") ∷ []) }
     ensures nameless { names_given (codes "--name=inst0" ∷ []) ≡ None }
+    ensures ruled { rules_given (codes "--rules" ∷ codes "lab.rules" ∷ []) ≡ Some (codes "lab.rules") }
+    ensures unruled { rules_given [] ≡ None }
     ensures impatient { verdict (codes "--patience=0" ∷ []) ≡ refused }
     ensures above { verdict (codes "--workers" ∷ codes "65" ∷ []) ≡ refused }
     ensures below { verdict (codes "--sample=0" ∷ []) ≡ refused }

@@ -1,5 +1,5 @@
-//! Tests of the shared gateway, its turns and its sessions, of those at a desk with names, of sessions over four buses, and of those that
-//! written rules guard.
+//! Tests of the shared gateway, its turns and its sessions, of those at a desk with names, of sessions over four buses, of those that written
+//! rules guard, and of links of a lab that has both names and rules.
 #![tactic(auto)]
 
 #[cfg(test)]
@@ -28,6 +28,8 @@ mod guard_run_tests;
 mod guard_session_tests;
 #[cfg(test)]
 mod guard_tools;
+#[cfg(test)]
+mod lab_tests;
 #[cfg(test)]
 mod names_tests;
 #[cfg(test)]

@@ -18,7 +18,7 @@ use vx_memory::MemLink;
 use vx_session::{End, Linked, NoTools, OneBus, Room, Worker};
 
 /// A name, and the device text that it is to stand for.
-type Pair = (&'static [u8], &'static [u8]);
+pub(crate) type Pair = (&'static [u8], &'static [u8]);
 
 const LONGEST: &[u8] = &[0x67; 255];
 
@@ -121,7 +121,7 @@ struct Row {
 }
 
 /// A create_link: xid 1, client 42, no lock, the device `inst0`; and a device_write: xid 2, link 1, the byte `A` with END.
-const BY_NAME: [u32; 34] = [
+pub(crate) const BY_NAME: [u32; 34] = [
     0x80000040, 1, 0, 2, 0x0607AF, 1, 10, 0, 0, 0, 0, 42, 0, 0, 5, 0x696E7374, 0x30000000,
     0x80000040, 2, 0, 2, 0x0607AF, 1, 11, 0, 0, 0, 0, 1, 10000, 0, 8, 1, 0x41000000,
 ];
@@ -136,7 +136,7 @@ const NO_ADDRESS: [u32; 20] = [
     0x80000028, 1, 1, 0, 0, 0, 0, 21, 0, 0, 0, 0x80000020, 2, 1, 0, 0, 0, 0, 4, 0,
 ];
 
-const INST0: &[Pair] = &[(b"inst0", b"gpib0,5")];
+pub(crate) const INST0: &[Pair] = &[(b"inst0", b"gpib0,5")];
 
 const INST0_LAST: &[Pair] = &[(b"inst1", b"gpib0,31"), (b"inst0", b"gpib0,5")];
 
@@ -193,7 +193,7 @@ fn add_all(names: &mut NameTable, pairs: &[Pair]) -> bool {
 }
 
 /// A table of these names.
-fn table_of(alloc: Global, pairs: &[Pair]) -> Option<NameTable> {
+pub(crate) fn table_of(alloc: Global, pairs: &[Pair]) -> Option<NameTable> {
     let mut names = NameTable::new(alloc).ok()?;
     let is_whole = add_all(&mut names, pairs);
     is_whole.then_some(names)

@@ -107,7 +107,7 @@ fn open_port(rt: &HostRuntime) -> Option<(TcpPort, u16)> {
 fn dialings<R: Wait>(rt: &R, host: HostRuntime) -> Option<(Dialings, bool)> {
     let (pumps, dialed) = bounded::<Dialed, Global>(host.alloc(), 64).ok()?;
     let (port, number) = open_port(&host)?;
-    let mut tools = TcpTools::new(host, pumps, dialed, host.stderr(), false);
+    let mut tools = TcpTools::new(host, pumps, dialed, host.stderr(), false, None);
     let came = dial_twice(rt, &mut tools, port, number);
     Some((came, is_going_on(&mut tools)))
 }

@@ -1,6 +1,7 @@
 //! The lines of the log, as they are written.
 
 use std::alloc::{AllocError, Global};
+use vx_calls::Proc;
 use vx_io_traits::{Clock, Sink};
 use vx_memory::{MemClock, MemSink};
 use vx_startup::{Channel, Journal, News, Place, Reason};
@@ -28,8 +29,25 @@ const CAME: Told = Told {
     line: "12034 core 3 192.168.1.20:40124 came\n",
 };
 
-static ROWS: [Told; 9] = [
+static ROWS: [Told; 11] = [
     CAME,
+    Told {
+        news: News::Denied {
+            rule: 256,
+            proc: Proc::DestroyIntr,
+        },
+        line: "12034 core 3 192.168.1.20:40124 denied: unintr, rule 256\n",
+        ..CAME
+    },
+    // no rule allows it
+    Told {
+        news: News::Denied {
+            rule: 0,
+            proc: Proc::Write,
+        },
+        line: "12034 core 3 192.168.1.20:40124 denied: write, rule 0\n",
+        ..CAME
+    },
     // a clock may tell an earlier moment
     Told {
         moment: 12_033,

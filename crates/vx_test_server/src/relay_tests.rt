@@ -7,7 +7,7 @@ use std::alloc::{AllocError, Global};
 use std::sync::Wait;
 use vx_io_traits::{Listen, Net, Reach, Streams};
 use vx_relay::relay_run;
-use vx_serve::{Logs, Placed};
+use vx_serve::{Logs, Placed, Rules};
 use vx_session::Tools;
 
 /// A server with these words and this bench, over a box at the host `box` and port 9010 that gives these words; how it ends, and what it
@@ -142,7 +142,7 @@ fn row_of(relay: &Relay) -> Row {
 }
 
 /// Runs a server with these over a link to its box, and answers its status and the number of its tally.
-fn run<R: Wait, N: Net, X: Tools + Logs, L: Reach + Drop>(
+fn run<R: Wait, N: Net, X: Tools + Logs + Rules, L: Reach + Drop>(
     rt: &R,
     alloc: Global,
     setting: &mut Setting<N, X>,
@@ -168,7 +168,7 @@ where
 }
 
 /// Whether a server with these ends as a row says.
-fn ends_with<R: Wait, N: Net + Drop, X: Tools + Logs + Drop, L: Reach + Drop>(
+fn ends_with<R: Wait, N: Net + Drop, X: Tools + Logs + Rules + Drop, L: Reach + Drop>(
     rt: &R,
     alloc: Global,
     row: &Row,

@@ -55,6 +55,7 @@ const USAGE: Ends = Ends {
 /// A server that nothing disturbs.
 pub(crate) const PLAIN: Row = Row {
     words: "",
+    rules: None,
     bench: "",
     lines: 0,
     core: &[],

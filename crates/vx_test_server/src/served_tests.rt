@@ -17,8 +17,9 @@ use vx_io_traits::{
     WriteOut,
 };
 use vx_memory::{MemNet, MemSink, MemSource};
+use vx_policy::Policy;
 use vx_rack::{Asker, Spare};
-use vx_serve::{Logs, Place, Placed, Serve, serve_run};
+use vx_serve::{Logs, Place, Placed, Rules, Serve, serve_run};
 use vx_session::Tools;
 
 // create_link of `gpib0,5`, xid 1
@@ -270,6 +271,7 @@ impl Streams for Handled {
 pub(crate) enum Log {
     Nothing,
     OneLink,
+    Denied,
     TwoLinks,
     ThreeLinks,
     Interrupted,
@@ -281,6 +283,7 @@ impl Log {
         match self {
             Log::Nothing => &THREE_LINKS[..0],
             Log::OneLink => &ONE_LINK,
+            Log::Denied => &DENIED_LOG,
             Log::TwoLinks => &THREE_LINKS[..4],
             Log::ThreeLinks => &THREE_LINKS,
             Log::Interrupted => &INTERRUPTED_LOG,
@@ -294,6 +297,19 @@ static ONE_LINK: [(&str, u64); 2] = [
     (
         "1 core 1 192.168.1.20:40124 ended: closed by its peer, 1 calls\n",
         1 << 8,
+    ),
+];
+
+/// The log of a link whose create_link a rule denies.
+static DENIED_LOG: [(&str, u64); 3] = [
+    ("1 core 1 192.168.1.20:40124 came\n", 1),
+    (
+        "1 core 1 192.168.1.20:40124 denied: create, rule 2\n",
+        1 << 8,
+    ),
+    (
+        "2 core 1 192.168.1.20:40124 ended: closed by its peer, 1 calls\n",
+        1 << 16,
     ),
 ];
 
@@ -362,6 +378,13 @@ pub(crate) struct Bag {
     counts: Arc<Counts, Global>,
     streams: Sender<Channel>,
     dialed: Receiver<Channel>,
+    policy: Option<Policy>,
+}
+
+impl Rules for Bag {
+    fn rules(&mut self) -> Option<Policy> {
+        self.policy.take()
+    }
 }
 
 impl Tools for Bag {
@@ -455,14 +478,28 @@ fn net_of(
     Ok(MemNet::new(core, abort, row.fails.to_vec(alloc)?))
 }
 
+/// The access rules of a row.
+fn policy_of(alloc: Global, rules: Option<&str>) -> Result<Option<Policy>, AllocError> {
+    match rules {
+        None => Ok(None),
+        Some(text) if text.len() > 1_048_576 => Err(AllocError),
+        Some(text) => match Policy::from_text(alloc, text.as_bytes()) {
+            Ok(policy) => Ok(Some(policy)),
+            Err(_) => Err(AllocError),
+        },
+    }
+}
+
 fn bag_of(alloc: Global, row: &Row, counts: &Arc<Counts, Global>) -> Result<Bag, AllocError> {
     let counts = Arc::try_clone(counts)?;
     let (streams, dialed) = unbounded(alloc)?;
+    let policy = policy_of(alloc, row.rules)?;
     Ok(Bag {
         due: row.log,
         counts,
         streams,
         dialed,
+        policy,
     })
 }
 
@@ -473,12 +510,13 @@ fn source_of(alloc: Global, row: &Row) -> Result<MemSource, AllocError> {
     Ok(MemSource::new(bench, 4096, row.reads.to_vec(alloc)?))
 }
 
-/// A server: its words; its bench, and how many LFs are behind that; the links of its net at its two ports; which reads of the
+/// A server: its words; its access rules, if it has some; its bench, and how many LFs are behind that; the links of its net at its two ports; which reads of the
 /// bench, which writes, and which calls of the net fail, each counted from 1; which worker is refused, where it isn't 0. And
 /// then how it ends, and the lines of its log, each once and in any order.
 #[derive(Clone, Copy)]
 pub(crate) struct Row {
     pub words: &'static str,
+    pub rules: Option<&'static str>,
     pub bench: &'static str,
     pub lines: usize,
     pub core: &'static [Side],
@@ -531,7 +569,7 @@ pub(crate) fn setting_of(
 }
 
 /// Runs a server with these, and answers its status and the number of its tally.
-fn run<R: Wait, N: Net, X: Tools + Logs, I: Instrument, W: Spawner<Serve<N, X, I>>>(
+fn run<R: Wait, N: Net, X: Tools + Logs + Rules, I: Instrument, W: Spawner<Serve<N, X, I>>>(
     rt: &R,
     alloc: Global,
     setting: &mut Setting<N, X>,
@@ -585,7 +623,7 @@ pub(crate) fn is_ended(row: &Row, counts: &Counts, sink: &MemSink, ended: (u8, u
 fn ends_with<
     R: Wait,
     N: Net + Drop,
-    X: Tools + Logs + Drop,
+    X: Tools + Logs + Rules + Drop,
     I: Instrument,
     W: Spawner<Serve<N, X, I>>,
 >(
@@ -637,7 +675,7 @@ where
     R: Threads + Wait + Copy + Send + 'static,
     J: Work + Send + Drop + 'static,
 {
-    match wire(rt, alloc, stderr, false) {
+    match wire(rt, alloc, stderr, false, None) {
         Ok(Wiring { spawner, .. }) => Some(spawner),
         Err(_) => None,
     }
@@ -656,9 +694,18 @@ fn ends_so_in_threads<R: Threads + Wait + Copy + Send + 'static>(
 /// One worker of core links, and one of streams.
 const ONE: &str = "--workers 1";
 
+/// How a server ends whose one core link took the reply to a create_link.
+const ENDED: Ends = Ends {
+    status: 0,
+    text: "listening 9010 9011\nserved 1\n",
+    number: 1,
+    bytes: [44, 0, 0],
+};
+
 /// One core link, which makes a link of the gateway.
-static SHORT: Row = Row {
+const SHORT: Row = Row {
     words: ONE,
+    rules: None,
     bench: "",
     lines: 0,
     core: &[Side::Short],
@@ -667,18 +714,26 @@ static SHORT: Row = Row {
     writes: &[],
     fails: &[],
     refuses: 0,
-    ends: Ends {
-        status: 0,
-        text: "listening 9010 9011\nserved 1\n",
-        number: 1,
-        bytes: [44, 0, 0],
-    },
+    ends: ENDED,
     log: Log::OneLink,
+};
+
+/// The same, where a rule denies that. Of the reply 39 bytes are as before: the error, the link, the abort port and the greatest size
+/// aren't.
+static DENIED: Row = Row {
+    rules: Some("allow 10.0.0.0/8 * *\ndeny 192.168.0.0/16 create *\nallow * * *"),
+    ends: Ends {
+        bytes: [39, 0, 0],
+        ..ENDED
+    },
+    log: Log::Denied,
+    ..SHORT
 };
 
 /// A core link that asks for service and is interrupted, and an abort link. Its replies have 44 bytes, 32, 32 and 36.
 static INTERRUPTED: Row = Row {
     words: ONE,
+    rules: None,
     bench: "plug 5 asker\n",
     lines: 0,
     core: &[Side::Core],
@@ -700,6 +755,7 @@ static INTERRUPTED: Row = Row {
 fn links_are_served_in_threads(rt: HostRuntime) {
     for (name, row) in [
         ("a link", &SHORT),
+        ("a link whose call a rule denies", &DENIED),
         ("an interrupt and an abort", &INTERRUPTED),
     ] {
         let is_so = ends_so_in_threads(rt, rt.alloc(), rt.stderr(), row);

@@ -21,7 +21,7 @@ const USUAL: Options = Options {
 };
 
 /// Lines of words that ask to serve, and what each sets.
-static SERVED: [(&str, Options); 36] = [
+static SERVED: [(&str, Options); 38] = [
     // no word sets an option
     ("", USUAL),
     ("--", USUAL),
@@ -148,6 +148,9 @@ static SERVED: [(&str, Options); 36] = [
         "--name inst0=gpib0,5 --log --name=inst1=inst0",
         Options { log: true, ..USUAL },
     ),
+    // nor does a file of rules
+    ("--rules lab.rules", USUAL),
+    ("--rules=lab.rules --log", Options { log: true, ..USUAL }),
     // all of them, in any order
     (
         "--core 1024 --abort 1025 --sample 250 --workers 4 --limit 7",
@@ -212,7 +215,7 @@ static SERVED: [(&str, Options); 36] = [
 ];
 
 /// Lines that are refused.
-static REFUSED: [&str; 57] = [
+static REFUSED: [&str; 61] = [
     // above or below a range
     "--core 0",
     "--core 65536",
@@ -264,6 +267,11 @@ static REFUSED: [&str; 57] = [
     "--name inst0=gpib0,5 --name=inst1=gpib0,6 --name=inst0=gpib0,7",
     // a number out of its range beside a name
     "--name inst0=gpib0,5 --workers 65",
+    // no file of rules, or two
+    "--rules",
+    "--rules --log",
+    "--rules lab.rules --rules lab.rules",
+    "--rules lab.rules house.rules",
     // other words, and the program's name
     "inst0=gpib0,5",
     "--name inst0=gpib0,5 inst1=gpib0,6",
@@ -330,6 +338,18 @@ static NAMED: [(&str, &str, &str); 17] = [
     ("--name==gpib0", "", "gpib0"),
 ];
 
+/// Lines, and the file of rules that each names; none where it names none.
+static FILES: [(&str, Option<&str>); 5] = [
+    ("", None),
+    ("--name inst0=gpib0,5 --log", None),
+    ("--rules lab.rules", Some("lab.rules")),
+    (
+        "--log --rules=/etc/lab.rules --workers 4",
+        Some("/etc/lab.rules"),
+    ),
+    ("--rules=", Some("")),
+];
+
 /// How many bytes a name and its device text have, and whether they are taken: each has at most 255.
 static LENGTHS: [(u32, u32, bool); 5] = [
     (255, 1, true),
@@ -352,7 +372,7 @@ const VERSION: &str = "vxgate 0.1.0\n";
 static HELPS: [&str; 4] = ["--help", "-h", "--workers 64 --help", "--help --port"];
 
 /// What the help tells, among others.
-static PARTS: [&str; 29] = [
+static PARTS: [&str; 30] = [
     "A VXI-11 gateway to a GPIB bus\n",
     "TCPIP::host::gpib0,5::INSTR",
     "Usage: vxgate [OPTIONS]\n",
@@ -377,6 +397,7 @@ static PARTS: [&str; 29] = [
     "--log",
     "--map",
     "--name <NAME=DEVICE>",
+    "--rules <FILE>",
     "inst0=gpib0,5",
     "vxgate < ",
     "vxgate --upstream HOST PORT [NAME] [OPTIONS] < ",
@@ -393,7 +414,7 @@ fn asked(alloc: Global, line: &str) -> Result<Asked, AllocError> {
 /// Whether a line asks to serve with these options.
 fn is_served(alloc: Global, line: &str, options: &Options) -> Result<bool, AllocError> {
     match asked(alloc, line)? {
-        Asked::Serve(set, _) => Ok(set == *options),
+        Asked::Serve(set, _, _) => Ok(set == *options),
         _ => Ok(false),
     }
 }
@@ -409,7 +430,15 @@ fn is_refused(alloc: Global, line: &str) -> Result<bool, AllocError> {
 /// Whether a line asks to serve, and by its names a text stands for this device.
 fn stands_for(alloc: Global, line: &str, text: &str, device: &str) -> Result<bool, AllocError> {
     match asked(alloc, line)? {
-        Asked::Serve(_, names) => Ok(names.device_of(text.as_bytes()) == device.as_bytes()),
+        Asked::Serve(_, names, _) => Ok(names.device_of(text.as_bytes()) == device.as_bytes()),
+        _ => Ok(false),
+    }
+}
+
+/// Whether a line asks to serve by the rules of this file, or without rules.
+fn is_ruled(alloc: Global, line: &str, due: Option<&str>) -> Result<bool, AllocError> {
+    match asked(alloc, line)? {
+        Asked::Serve(_, _, file) => Ok(file.as_deref() == due),
         _ => Ok(false),
     }
 }
@@ -512,6 +541,14 @@ fn names_stand_for_devices(rt: HostRuntime) {
     for (line, text, device) in &NAMED {
         let is_so = stands_for(rt.alloc(), line, text, device);
         assert!(rt; is_so == Ok(true), "{line}: {text}");
+    }
+}
+
+#[test]
+fn a_file_of_rules_is_named(rt: HostRuntime) {
+    for (line, file) in &FILES {
+        let is_so = is_ruled(rt.alloc(), line, *file);
+        assert!(rt; is_so == Ok(true), "{line}");
     }
 }
 

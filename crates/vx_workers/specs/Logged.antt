@@ -1,5 +1,6 @@
--- How a link's work ended, as the log tells it.
-use Rattle.std.specs.Prelude.{ℕ}
+-- What a log tells, and how a link's work ended in its words.
+use Rattle.std.specs.Prelude.{ℕ, None}
+use Rattle.vx_text.specs.Ends.{End as Lines}
 use Rattle.vx_stream.specs.declared.ends.End.{End}
 use Rattle.vx_stream.specs.declared.ends.End.TheVariants as end
 use Rattle.vx_session.specs.declared.links.Linked.{Linked}
@@ -23,3 +24,7 @@ abbrev pub news_of : Linked → ℕ → News
 news_of (linked.Ended e) calls = news.Ended (reason_of e) calls
 news_of linked.Full calls = news.Full
 news_of linked.NoMemory calls = news.NoMemory
+
+-- a log as what is told of denials: it tells none of its lines, and no fault
+abbrev pub untold : Lines
+untold = record { bytes = None; faults = 0 }

@@ -3,16 +3,19 @@ use Rattle.std.specs.Prelude.{ℕ, List, [], ◌∷◌, ◌++◌}
 use Rattle.vx_calls.specs.declared.calls.Role.{Role}
 use Rattle.vx_calls.specs.declared.calls.Role.TheVariants as role
 use Rattle.vx_io_traits.specs.declared.dials.Dial.{Ghosts as OfDial}
+use Rattle.vx_text.specs.Ends.{End}
 use Rattle.vx_session.specs.Dialing.{DialShown, dial_shown, no_dial}
 use Rattle.vx_session.specs.Placing.{Placed}
 use Rattle.vx_session.specs.Progress.{Clocked, unclocked}
 use Rattle.vx_session.specs.declared.links.Linked.{Linked}
+use Rattle.vx_workers.specs.Logged.{untold}
 
--- what a worker has as it serves a link: its access, the link, and what can be known of its dial
+-- what a worker has as it serves a link: its access, the link, what can be known of its dial, and what its note took
 pub record Working (A L : Type 0) : Type 0 where
   pub access : A
   pub link : L
   pub dial : DialShown
+  pub note : End
 
 -- What serving a link does: the groups for which the clock was called so, the greatest moment that the clock has told, the role of the
 -- connection, what the worker had, how the link's work ended, and what the worker has then.
@@ -33,14 +36,14 @@ core_worker by_dial access clock dial = record { access = access; clock = clock;
 pub record ServesCore {A L C : Type 0} (serves : Serving A L) (tells : C → ℕ → C → Type 0) (told : C → ℕ) (before : CoreWorker A C) (link : L) (after : CoreWorker A C) : Type 0 where
   pub how : Linked
   pub last : L
-  pub did : serves (Clocked tells before.clock after.clock) (told after.clock) role.Core (record { access = before.access; link = link; dial = before.dial }) how
-      (record { access = after.access; link = last; dial = after.dial })
+  pub did : serves (Clocked tells before.clock after.clock) (told after.clock) role.Core (record { access = before.access; link = link; dial = before.dial; note = untold }) how
+      (record { access = after.access; link = last; dial = after.dial; note = untold })
 
 -- an abort link was served, and is gone then
 pub record ServesAbort {A L : Type 0} (serves : Serving A L) (before : A) (link : L) (after : A) : Type 0 where
   pub how : Linked
   pub last : L
-  pub did : serves unclocked 0 role.Abort (record { access = before; link = link; dial = no_dial }) how (record { access = after; link = last; dial = no_dial })
+  pub did : serves unclocked 0 role.Abort (record { access = before; link = link; dial = no_dial; note = untold }) how (record { access = after; link = last; dial = no_dial; note = untold })
 
 -- links were served one after another, each so, and nothing else was done between
 pub data ServesEach {S L : Type 0} (one : S → L → S → Type 0) : S → List L → S → Type 0 where

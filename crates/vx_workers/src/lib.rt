@@ -9,7 +9,7 @@ mod starting;
 mod workers;
 
 pub use accepting::accept_links;
-pub use access::{Access, GateAccess, LinkAccess};
+pub use access::{Access, GateAccess, LabBook, LinkAccess};
 pub use served::Served;
 pub use starting::{Acceptor, AcceptorOf, Unstarted, start_all};
 pub use workers::{Attend, CoreKit, CoreWorker, Duty, Job, Peer, ServeBus};

@@ -8,6 +8,7 @@ use crossbeam_channel::{Receiver, Sender, bounded};
 use std::alloc::{AllocError, Global};
 use std::sync::Arc;
 use vx_calls::ROLE_MAX;
+use vx_desks::{GuardRoom, Kit};
 use vx_io_traits::{Net, Streams};
 use vx_session::{Room, Tools};
 use vx_startup::{Journal, Logs, Options};
@@ -39,6 +40,14 @@ fn room(alloc: Global) -> Result<Room, AllocError> {
     }
 }
 
+/// The room of one session at a time whose calls may be judged.
+fn judged_room(alloc: Global) -> Result<GuardRoom, AllocError> {
+    match GuardRoom::new(alloc) {
+        Ok(room) => Ok(room),
+        Err(_) => Err(AllocError),
+    }
+}
+
 /// The log of one worker, with a clock of its own.
 fn journal<X: Tools + Logs>(tools: &mut X) -> Journal<X::C, X::L> {
     Journal {
@@ -54,12 +63,15 @@ fn core_kit<X: Tools + Logs>(
     served: &Arc<Served, Global>,
 ) -> Result<CoreKit<X::C, X::P, X::D, X::L>, AllocError> {
     let served = Arc::try_clone(served)?;
-    let room = room(alloc)?;
-    Ok(CoreKit {
+    let room = judged_room(alloc)?;
+    let kit = Kit {
         clock: tools.clock(),
         pause: tools.pause(),
         dial: tools.dial(),
         room,
+    };
+    Ok(CoreKit {
+        tools: kit,
         journal: journal(tools),
         served,
     })

@@ -2,7 +2,7 @@
 ghost use Rattle.std.specs.Prelude.{◌≡◌, List};
 ghost use Rattle.vx_session.specs.Dialing.{dial_shown};
 ghost use Rattle.vx_stream.specs.Visiting.{VisitorState};
-ghost use Rattle.vx_workers.specs.Logged.{news_of, reason_of};
+ghost use Rattle.vx_workers.specs.Logged.{news_of, reason_of, untold};
 ghost use Rattle.vx_workers.specs.Working.{ServesCore, ServesAbort, ServesEach, core_worker};
 
 use crate::access::{Access, GateAccess, LinkAccess};
@@ -11,7 +11,10 @@ use crossbeam_channel::{Receiver, Sender};
 use std::alloc::Global;
 use std::sync::{Arc, Wait};
 use vx_488::Bus;
+use vx_calls::CallRef;
+use vx_desks::{Kit, Note};
 use vx_io_traits::{Accepted, Clock, Dial, Handed, Link, Listen, Net, Pause, Sink, Streams, Work};
+use vx_policy::proc_of;
 use vx_session::{End, Linked, Room, Tools};
 use vx_startup::{Channel, Journal, Logs, News, Place, Placed, Reason};
 use vx_stream::CountingLink;
@@ -19,13 +22,34 @@ use vx_stream::CountingLink;
 /// What one core link wants besides itself, the log that it is told in, and where it is counted. The log has a clock of its own: what is
 /// claimed of a session's turns says for what theirs was called.
 #[derive(Drop)]
-pub struct CoreKit<C: Clock, P: Pause, D: Dial, G: Sink> {
-    pub clock: C,
-    pub pause: P,
-    pub dial: D,
-    pub room: Room,
+pub struct CoreKit<C: Clock + Drop, P: Pause + Drop, D: Dial + Drop, G: Sink> {
+    pub tools: Kit<C, P, D>,
     pub journal: Journal<C, G>,
     pub served: Arc<Served, Global>,
+}
+
+/// The log as what is told of denials: each has a line, with the number of its connection and the place of its peer. Where the log fails
+/// no session ends by it.
+#[derive(Drop)]
+struct DenialLog<C: Clock, G: Sink> {
+    journal: Journal<C, G>,
+    number: u64,
+    place: Place,
+}
+
+impl<C: Clock, G: Sink> Note for DenialLog<C, G> {
+    ghost took = { λ _. untold };
+
+    fn tell(&mut self, _conn: u32, rule: u32, call: &CallRef<'_>) -> bool {
+        let news = News::Denied {
+            rule,
+            proc: proc_of(call),
+        };
+        let _ = self
+            .journal
+            .tell(Channel::Core, self.number, self.place, news);
+        true
+    }
 }
 
 /// What one abort link wants besides itself, and the log that it is told in.
@@ -93,41 +117,50 @@ pub trait Attend<L>: Sized {
 
 /// What serves core links: its access, and what it wants besides.
 #[derive(Drop)]
-pub struct CoreWorker<A, C: Clock, P: Pause, D: Dial, G: Sink> {
+pub struct CoreWorker<A, C: Clock + Drop, P: Pause + Drop, D: Dial + Drop, G: Sink> {
     pub access: A,
     pub kit: CoreKit<C, P, D, G>,
 }
 
 impl<
     A: LinkAccess<CountingLink<L>>,
-    L: Link + Placed + Drop,
-    C: Clock,
-    P: Pause,
-    D: Dial,
+    L: Placed + Drop,
+    C: Clock + Drop,
+    P: Pause + Drop,
+    D: Dial + Drop,
     G: Sink,
 > Attend<CountingLink<L>> for CoreWorker<A, C, P, D, G> {
-    ghost attends = { λ w link w'. ServesCore A.serves C.tells C.told (core_worker D.Dial w.access w.kit.clock w.kit.dial) link (core_worker D.Dial w'.access w'.kit.clock w'.kit.dial) };
+    ghost attends = { λ w link w'. ServesCore A.serves C.tells C.told (core_worker D.Dial w.access w.kit.tools.clock w.kit.tools.dial) link (core_worker D.Dial w'.access w'.kit.tools.clock w'.kit.tools.dial) };
 
     fn tell(&mut self, number: u64, place: Place, news: News) {
         let _ = self.kit.journal.tell(Channel::Core, number, place, news);
     }
 
-    /// Serves a core link, tells how it went, and counts it.
+    /// Serves a core link, tells each call of it that a rule denies, and how it went, and counts it.
     fn attend<R: Wait>(self, rt: &R, link: CountingLink<L>) -> CoreWorker<A, C, P, D, G> {
-        let CoreWorker { access, mut kit } = self;
+        let CoreWorker { access, kit } = self;
+        let CoreKit {
+            mut tools,
+            journal,
+            served,
+        } = kit;
         let number = link.number();
         let place = link.link().place();
-        let (access, done) = access.core_link(
-            rt,
-            link,
-            &mut kit.clock,
-            &mut kit.pause,
-            &mut kit.dial,
-            &mut kit.room,
-        );
+        let mut note = DenialLog {
+            journal,
+            number,
+            place,
+        };
+        let (access, done) = access.core_link(rt, link, place.host, &mut tools, &mut note);
+        let DenialLog { mut journal, .. } = note;
         let news = news_of(*done.how(), done.link().answered());
-        let _ = kit.journal.tell(Channel::Core, number, place, news);
-        kit.served.add(rt, done);
+        let _ = journal.tell(Channel::Core, number, place, news);
+        served.add(rt, done);
+        let kit = CoreKit {
+            tools,
+            journal,
+            served,
+        };
         CoreWorker { access, kit }
     }
 }
@@ -139,9 +172,8 @@ pub struct AbortWorker<A, C: Clock, G: Sink> {
     pub kit: AbortKit<C, G>,
 }
 
-impl<A: LinkAccess<CountingLink<L>>, L: Link + Placed + Drop, C: Clock, G: Sink> Attend<
-    CountingLink<L>,
-> for AbortWorker<A, C, G> {
+impl<A: LinkAccess<CountingLink<L>>, L: Placed + Drop, C: Clock, G: Sink> Attend<CountingLink<L>>
+    for AbortWorker<A, C, G> {
     ghost attends = { λ w link w'. ServesAbort A.serves w.access link w'.access };
 
     fn tell(&mut self, number: u64, place: Place, news: News) {
@@ -177,7 +209,7 @@ fn serve_each<R: Wait, L: Drop, V: Attend<L>>(rt: &R, worker: V, links: &Receive
 
 /// Tells that a link came, and hands it to the workers. It waits where 64 links wait for one, and serves a link that comes back
 /// itself.
-pub fn hand_on<R: Wait, L: Link + Placed + Drop, V: Attend<CountingLink<L>>>(
+pub fn hand_on<R: Wait, L: Placed + Drop, V: Attend<CountingLink<L>>>(
     rt: &R,
     links: &Sender<CountingLink<L>>,
     worker: V,

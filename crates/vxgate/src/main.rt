@@ -4,9 +4,11 @@
 
 mod mapping;
 mod models;
+mod rules;
 
 use crate::mapping::{Mapped, map_ports};
 use crate::models::AnyModel;
+use crate::rules::rules_of;
 use arrayvec::ArrayString;
 use std::alloc::{AllocError, Global};
 use std::env::{self, Env};
@@ -17,7 +19,7 @@ use vx_io::{ReachTimeouts, StdSink, StdSource, TcpReach, Timeouts};
 use vx_rack::{Asker, Echo, Meter, NoMemory, Slow, Spare};
 use vx_relay::{place_of, relay_run};
 use vx_serve::{Serve, ServeBus, serve_run};
-use vx_startup::{Asked, read_words};
+use vx_startup::{Asked, Options, read_words};
 use vx_upstream::UpstreamBus;
 
 /// The exit status where there is no memory for the words, the spare instruments, or what starts the workers.
@@ -136,29 +138,42 @@ fn reach_timeouts(patience: u32) -> ReachTimeouts {
     }
 }
 
-/// What the options say of it. Those that don't ask to serve say nothing: the server meets them itself.
-fn watch_of(alloc: Global, options: &[String]) -> Result<Watch, Unmade> {
+/// What the options say of it.
+fn watch_of(options: Options) -> Watch {
+    Watch {
+        timeouts: Timeouts {
+            keepalive: options.keepalive,
+            send: options.send_timeout,
+            idle: options.idle,
+            abort_idle: options.abort_idle,
+        },
+        reach: reach_timeouts(options.patience),
+        has_log: options.log,
+        mapped: options.map.then_some(Mapped {
+            core: options.core,
+            abort: options.abort,
+        }),
+    }
+}
+
+/// What is to be watched where the server isn't asked to serve.
+const NOTHING: Watch = Watch {
+    timeouts: Timeouts::NONE,
+    reach: ReachTimeouts {
+        connect: BOX_WAITS,
+        receive: BOX_WAITS,
+        send: BOX_WAITS,
+    },
+    has_log: false,
+    mapped: None,
+};
+
+/// The same, and the file of the access rules, where the options name one. Those that don't ask to serve say nothing: the server meets
+/// them itself.
+fn asked_of(alloc: Global, options: &[String]) -> Result<(Watch, Option<String>), Unmade> {
     match read_words(alloc, options) {
-        Asked::Serve(options, _) => Ok(Watch {
-            timeouts: Timeouts {
-                keepalive: options.keepalive,
-                send: options.send_timeout,
-                idle: options.idle,
-                abort_idle: options.abort_idle,
-            },
-            reach: reach_timeouts(options.patience),
-            has_log: options.log,
-            mapped: options.map.then_some(Mapped {
-                core: options.core,
-                abort: options.abort,
-            }),
-        }),
-        Asked::Tell(_) | Asked::Usage => Ok(Watch {
-            timeouts: Timeouts::NONE,
-            reach: reach_timeouts(0),
-            has_log: false,
-            mapped: None,
-        }),
+        Asked::Serve(options, _, file) => Ok((watch_of(options), file)),
+        Asked::Tell(_) | Asked::Usage => Ok((NOTHING, None)),
         Asked::NoMemory => Err(Unmade),
     }
 }
@@ -168,6 +183,7 @@ fn watch_of(alloc: Global, options: &[String]) -> Result<Watch, Unmade> {
 struct Made {
     words: Vec<String>,
     watch: Watch,
+    file: Option<String>,
     rack: Vec<Spare<AnyModel>>,
 }
 
@@ -175,9 +191,14 @@ struct Made {
 fn make(rt: &HostRuntime) -> Result<Made, Unmade> {
     let alloc = rt.alloc();
     let words = words_of(rt)?;
-    let watch = watch_of(alloc, options_of(words.as_slice()))?;
+    let (watch, file) = asked_of(alloc, options_of(words.as_slice()))?;
     let rack = rack_of(alloc)?;
-    Ok(Made { words, watch, rack })
+    Ok(Made {
+        words,
+        watch,
+        file,
+        rack,
+    })
 }
 
 /// Ends with the status of the server.
@@ -185,13 +206,22 @@ fn main(rt: HostRuntime) -> ExitCode {
     let Ok(made) = make(&rt) else {
         return ExitCode::from(NO_MEMORY);
     };
-    let Made { words, watch, rack } = made;
+    let Made {
+        words,
+        watch,
+        file,
+        rack,
+    } = made;
+    let mut sink = StdSink::new(rt.stdout());
+    let policy = match rules_of(&rt, rt.alloc(), file.as_deref(), &mut sink) {
+        Ok(policy) => policy,
+        Err(status) => return ExitCode::from(status),
+    };
     if map_ports(rt, rt.alloc(), rt.stderr(), watch.mapped).is_err() {
         return ExitCode::from(NO_MEMORY);
     }
     let mut source = StdSource::new(rt.stdin());
     let mut net = HostNet::new(rt, watch.timeouts);
-    let mut sink = StdSink::new(rt.stdout());
     let status = match behind_upstream(words.as_slice()) {
         None => {
             let Ok(mut wiring) = wire::<HostRuntime, Job>(
@@ -199,6 +229,7 @@ fn main(rt: HostRuntime) -> ExitCode {
                 rt.alloc(),
                 rt.stderr(),
                 watch.has_log,
+                policy,
             ) else {
                 return ExitCode::from(NO_MEMORY);
             };
@@ -221,6 +252,7 @@ fn main(rt: HostRuntime) -> ExitCode {
                 rt.alloc(),
                 rt.stderr(),
                 watch.has_log,
+                policy,
             ) else {
                 return ExitCode::from(NO_MEMORY);
             };

@@ -66,7 +66,7 @@ read_done input.NoMemory rack o before after tally how zero e = absurd (none_don
 
 asked_done : (request : Asked) (rack : List SpareShown) (source source' : End) (before after : ServerIo) (tally : ℕ) (how : ServerStatus) → server_status_number how ≡ 0
     → EndsAsked request rack source source' before after tally how → DoneFor request before.ports.sink after.ports.sink tally
-asked_done (asked.Serve o names) rack source source' before after tally how zero e = read_done e.given rack o before after tally how zero e.ends
+asked_done (asked.Serve o names file) rack source source' before after tally how zero e = read_done e.given rack o before after tally how zero e.ends
 asked_done (asked.Tell text) rack source source' before after tally how zero e =
     text_done (string_bytes text) before.ports.sink after.ports.sink how zero e.1.1
 asked_done asked.Usage rack source source' before after tally how zero e =

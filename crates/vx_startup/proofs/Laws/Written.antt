@@ -75,7 +75,7 @@ pub ready : (words : List (List ℕ)) (rack : List SpareShown) (source source' :
     → IsServerReady words rack source source' o names → ServerEndsRun o before.ports before.refused after.ports after.refused tally how
     → ServerEnds words rack source source' before after tally how
 ready words rack source source' o names before after tally how r run = record {
-  request = asked.Serve o names;
+  request = asked.Serve o names r.file;
   asks = r.asks;
   ends = record { given = r.given; reads = r.reads; ends = reads_so o rack before after tally how r.given r.bench run };
 }

@@ -37,8 +37,8 @@ returns-in_err-no_bench-clause-early g c =
     let how = c.in_err-no_bench.field-0.0 in
     let p = err_from_is_err_and c.from_residual-in_err-no_bench.result c.from_residual-in_err-no_bench.ensures.1 in
     answered (RelayEnds w c.args.link words source source') (sink_shown g.K.Sink c.args.sink.now) sink sink' _ how c.in_ok-options.ensures.silent
-    (at_bench w c.args.link words (place_shown c.in-Some.upstream) (map string_bytes c.in-Some.rest.now) c.in_ok-options.options c.in_ok-options.names source source' sink sink' how
-    c.in-Some.ensures.some c.in_ok-options.ensures.set c.in_err-no_bench.ensures.early) (cc (p.1, p.2))
+    (at_bench w c.args.link words (place_shown c.in-Some.upstream) (map string_bytes c.in-Some.rest.now) c.in_ok-options.options c.in_ok-options.names c.in_ok-options.ensures.set.0 source source' sink sink' how
+    c.in-Some.ensures.some c.in_ok-options.ensures.set.1 c.in_err-no_bench.ensures.early) (cc (p.1, p.2))
 
 pub returns-in_err-bus-clause-early : goal.returns-in_err-bus-clause-early
 returns-in_err-bus-clause-early g c =
@@ -52,5 +52,5 @@ returns-in_err-bus-clause-early g c =
     let p = err_from_is_err_and c.from_residual-in_err-bus.result c.from_residual-in_err-bus.ensures.1 in
     answered (RelayEnds w c.args.link words source source') (sink_shown g.K.Sink c.args.sink.now) sink sink' _ how
     (c.in_ok-no_bench.ensures.silent ∙ c.in_ok-options.ensures.silent)
-    (at_opening w c.args.link words (place_shown c.in-Some.upstream) (map string_bytes c.in-Some.rest.now) c.in_ok-options.options c.in_ok-options.names source source' sink sink' how
-    c.in-Some.ensures.some c.in_ok-options.ensures.set c.in_ok-no_bench.ensures.none c.in_err-bus.ensures.early) (cc (p.1, p.2))
+    (at_opening w c.args.link words (place_shown c.in-Some.upstream) (map string_bytes c.in-Some.rest.now) c.in_ok-options.options c.in_ok-options.names c.in_ok-options.ensures.set.0 source source' sink sink' how
+    c.in-Some.ensures.some c.in_ok-options.ensures.set.1 c.in_ok-no_bench.ensures.none c.in_err-bus.ensures.early) (cc (p.1, p.2))

@@ -12,4 +12,5 @@ returns c =
     let five = c.in_ok-arg-5.ensures.shape c.number_option-5.ensures.local ∙ ap₂ with_rule four c.number_option-5.ensures.rule in
     let six = c.in_ok-arg-6.ensures.shape c.flag.ensures.local ∙ ap₂ with_rule five c.flag.ensures.rule in
     let seven = c.in_ok-arg-7.ensures.shape c.flag-2.ensures.local ∙ ap₂ with_rule six c.flag-2.ensures.rule in
-    IfOk-weaker c.arg-8.result _ _ (λ r h. h.shape c.text_option.ensures.local ∙ ap₂ with_rule seven c.text_option.ensures.rule) c.arg-8.ensures
+    let eight = c.in_ok-arg-8.ensures.shape c.text_option.ensures.local ∙ ap₂ with_rule seven c.text_option.ensures.rule in
+    IfOk-weaker c.arg-9.result _ _ (λ r h. h.shape c.file_option.ensures.local ∙ ap₂ with_rule eight c.file_option.ensures.rule) c.arg-9.ensures

@@ -24,7 +24,7 @@ returns-in_err-text-clause-early g c =
     let p = err_from_is_err_and c.from_residual-in_err-text.result c.from_residual-in_err-text.ensures.1 in
     answered (ServerEnds words rack source source') (sink_shown g.K.Sink c.args.sink.now) sink sink' _ how
     c.in_ok-options.ensures.silent
-    (behind_words words rack source source' o names sink sink' how c.in_ok-options.ensures.set (c.in_err-text.ensures.early o rack)) (cc (p.1, p.2))
+    (behind_words words rack source source' o names c.in_ok-options.ensures.set.0 sink sink' how c.in_ok-options.ensures.set.1 (c.in_err-text.ensures.early o rack)) (cc (p.1, p.2))
 
 pub returns-in_err-bus-clause-early : goal.returns-in_err-bus-clause-early
 returns-in_err-bus-clause-early g c =
@@ -42,12 +42,13 @@ returns-in_err-bus-clause-early g c =
     let p = err_from_is_err_and c.from_residual-in_err-bus.result c.from_residual-in_err-bus.ensures.1 in
     answered (ServerEnds words rack source source') (sink_shown g.K.Sink c.args.sink.now) sink sink' _ how
     (c.in_ok-text.ensures.silent ∙ c.in_ok-options.ensures.silent)
-    (behind_words words rack source source' o names sink sink' how c.in_ok-options.ensures.set
+    (behind_words words rack source source' o names c.in_ok-options.ensures.set.0 sink sink' how c.in_ok-options.ensures.set.1
     (behind_reading o rack source source' (input.Whole c.in_ok-text.text) sink sink' how c.in_ok-text.ensures.read set)) (cc (p.1, p.2))
 
 pub returns-clause-ready : goal.returns-clause-ready
 returns-clause-ready g c = record {
-  asks = c.in_ok-options.ensures.set;
+  file = c.in_ok-options.ensures.set.0;
+  asks = c.in_ok-options.ensures.set.1;
   given = input.Whole c.in_ok-text.text;
   reads = c.in_ok-text.ensures.read;
   bench =

@@ -66,3 +66,11 @@ returns-clause-names c = refl
 pub returns-clause-nameless : goal.returns-clause-nameless
 unfolding clap_on_literals rows
 returns-clause-nameless c = refl
+
+pub returns-clause-ruled : goal.returns-clause-ruled
+unfolding clap_on_literals rows
+returns-clause-ruled c = refl
+
+pub returns-clause-unruled : goal.returns-clause-unruled
+unfolding clap_on_literals rows
+returns-clause-unruled c = refl

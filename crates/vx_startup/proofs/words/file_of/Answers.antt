@@ -1,0 +1,12 @@
+use Rattle.std.proofs.Common.{◌∙◌, Some, ap, codes, sym}
+use Rattle.clap.specs.Words.{found_of}
+use Rattle.clap.proofs.WalkLemmas.{first_value-rows}
+use Rattle.vx_startup.proofs.words.file_of.Goals as goal
+
+pub returns-in_ok-from_str-in-Some : goal.returns-in_ok-from_str-in-Some
+returns-in_ok-from_str-in-Some c =
+    sym (first_value-rows (found_of c.args.matches.now) (codes "rules")) ∙ sym c.in-Some.ensures ∙ ap Some (sym c.in_ok-from_str-in-Some.ensures.ok)
+
+pub returns-in-None : goal.returns-in-None
+returns-in-None c =
+    sym (first_value-rows (found_of c.args.matches.now) (codes "rules")) ∙ sym c.in-None.ensures
